@@ -1,0 +1,11 @@
+pub mod Table
+pub mod Rounding
+pub mod Scale
+pub mod Bands
+pub mod Products
+pub mod Ceilings
+pub mod Published
+pub mod Percentages
+pub mod Surcharged
+pub mod Denials
+pub mod Laws

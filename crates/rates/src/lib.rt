@@ -1,0 +1,8 @@
+// Rate books: the guarantee that one uncovered written lot asks for.
+mod bands;
+pub mod laws;
+pub mod list;
+pub mod percentages;
+pub mod rate_book;
+pub mod scale;
+pub mod surcharge;
