@@ -7,8 +7,8 @@ use Rattle.std.specs.declared.option.Option.the-variants.{None, Some}
 use Rattle.rates.specs.declared.rate_book.Quote.{Quote}
 use Rattle.rates.specs.declared.bands.Moneyness.{Moneyness}
 use Rattle.rates.specs.declared.bands.Moneyness.the-variants.{AtLeast, Over, AtMost, Under, Any}
-use Rattle.rates.specs.declared.bands.Price.{Price}
-use Rattle.rates.specs.declared.bands.Price.the-variants.{Strike, Close}
+use Rattle.rates.specs.declared.bands.Share.{Share}
+use Rattle.rates.specs.declared.bands.Share.the-variants.{OfStrike, OfClose}
 use Rattle.rates.specs.declared.bands.Band.{Band}
 use Rattle.rates.specs.Scale.{_≥?_, _>?_, _≤?_, _<?_, percentOf}
 
@@ -20,20 +20,16 @@ holds (AtMost percent) S P = 100 * S ≤? percent * P
 holds (Under percent) S P = 100 * S <? percent * P
 holds Any S P = true
 
--- the price that a percentage is taken of
-abbrev pub priceIn : Price → Quote → ℕ
-priceIn Strike q = q .strike
-priceIn Close q = q .close
+-- so many per cent of one of the quote's prices, times the lot size
+abbrev pub shareOf : Share → Quote → ℕ
+shareOf (OfStrike percent) q = percentOf percent (q .strike) (q .lot)
+shareOf (OfClose percent) q = percentOf percent (q .close) (q .lot)
 
 -- the band applies to the quote
 abbrev pub applies : Band → Quote → Bool
 applies band q = holds (band .strike) (q .strike) (q .close)
 
--- the floor that the band sets for the quote
-abbrev pub floorIn : Band → Quote → ℕ
-floorIn band q = percentOf (band .percent) (priceIn (band .base) q) (q .lot)
-
 -- the floor of the first band that applies
 abbrev pub firstFloor : List Band → Quote → Option ℕ
 firstFloor [] q = None
-firstFloor (band ∷ bands) q = cond (applies band q) (Some (floorIn band q)) (firstFloor bands q)
+firstFloor (band ∷ bands) q = cond (applies band q) (Some (shareOf (band .floor) q)) (firstFloor bands q)

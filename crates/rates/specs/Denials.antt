@@ -1,7 +1,9 @@
 -- The denial of a surcharge.
-use mathlib.Core.List.{List}
+use mathlib.Core.List.{List, _++_}
 use mathlib.Core.Path.{_≡_}
 use Prim.Native.Nat.{ℕ}
+use lib.Chars.{codes}
+use Rattle.std.specs.Written.{decimal}
 use Rattle.terms.specs.declared.denial.Layer.{Layer}
 use Rattle.terms.specs.declared.denial.Layer.the-variants.{Book}
 use Rattle.terms.specs.declared.denial.Place.{Place}
@@ -17,6 +19,10 @@ percentageNumber fault = 2
 
 abbrev pub percentagePlace : PercentageAbove100 → Place
 percentagePlace fault = Number (fault .security)
+
+-- the reason in words
+abbrev pub percentageText : PercentageAbove100 → List ℕ
+percentageText fault = codes "the percentage of security " ++ (decimal (fault .security) ++ codes " is above 100")
 
 -- by 2, at the first security whose percentage is above 100
 pub record Denied (percents : List ℕ) (fault : PercentageAbove100) : Type 0 where

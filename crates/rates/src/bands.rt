@@ -4,8 +4,9 @@ ghost use mathlib.Core.Bool.{true};
 ghost use Prim.Native.Nat.{_≤_};
 ghost use Rattle.std.specs.declared.option.Option.the-variants.{Some};
 ghost use Rattle.rates.specs.Scale.{percentOf, floorOf, isAdmitted};
-ghost use Rattle.rates.specs.Bands.{holds, priceIn, applies, floorIn, firstFloor};
+ghost use Rattle.rates.specs.Bands.{holds, shareOf, applies, firstFloor};
 use crate::rate_book::Quote;
+use crate::rounding::rounded_up;
 use terms::OptionType;
 
 /// How the strike stands to so many per cent of the closing price.
@@ -18,64 +19,55 @@ enum Moneyness {
     Any,
 }
 
-/// The price that a percentage is taken of.
+/// So many per cent of one of the two prices.
 #[derive(Clone, Copy)]
-enum Price {
-    Strike,
-    Close,
+enum Share {
+    OfStrike(u8),
+    OfClose(u8),
 }
 
 /// A line of the scale: where it applies, and the floor that it sets.
 #[derive(Clone, Copy)]
 struct Band {
     strike: Moneyness,
-    percent: u8,
-    base: Price,
+    floor: Share,
 }
 
 const CALLS: [Band; 4] = [
     Band {
         strike: Moneyness::AtLeast(115),
-        percent: 2,
-        base: Price::Close,
+        floor: Share::OfClose(2),
     },
     Band {
         strike: Moneyness::Over(110),
-        percent: 5,
-        base: Price::Close,
+        floor: Share::OfClose(5),
     },
     Band {
         strike: Moneyness::AtLeast(100),
-        percent: 10,
-        base: Price::Close,
+        floor: Share::OfClose(10),
     },
     Band {
         strike: Moneyness::Any,
-        percent: 10,
-        base: Price::Strike,
+        floor: Share::OfStrike(10),
     },
 ];
 
 const PUTS: [Band; 4] = [
     Band {
         strike: Moneyness::AtMost(85),
-        percent: 2,
-        base: Price::Strike,
+        floor: Share::OfStrike(2),
     },
     Band {
         strike: Moneyness::Under(90),
-        percent: 5,
-        base: Price::Strike,
+        floor: Share::OfStrike(5),
     },
     Band {
         strike: Moneyness::AtMost(100),
-        percent: 10,
-        base: Price::Strike,
+        floor: Share::OfStrike(10),
     },
     Band {
         strike: Moneyness::Any,
-        percent: 10,
-        base: Price::Close,
+        floor: Share::OfClose(10),
     },
 ];
 
@@ -94,22 +86,23 @@ impl Moneyness {
     }
 }
 
-impl Price {
-    fn of(&self, quote: &Quote) -> u64
-        ensures { λ r. ⌜ r ≡ priceIn (now (self .entry)) (now (quote .entry)) ⌝ }
-    {
-        match self {
-            Price::Strike => quote.strike,
-            Price::Close => quote.close,
-        }
-    }
-}
-
 fn percent_of(percent: u8, price: u64, lot: u64) -> u64
     requires { ⌜ price ≤ 10000000 ⌝ ∗ ⌜ lot ≤ 10000 ⌝ }
     ensures { λ r. ⌜ r ≡ percentOf percent price lot ⌝ }
 {
-    (u64::from(percent) * price * lot).div_ceil(100)
+    rounded_up(u128::from(u64::from(percent) * price * lot)) as u64
+}
+
+impl Share {
+    fn of(&self, quote: &Quote) -> u64
+        requires { ⌜ isAdmitted (now quote) ≡ true ⌝ }
+        ensures { λ r. ⌜ r ≡ shareOf (now (self .entry)) (now (quote .entry)) ⌝ }
+    {
+        match self {
+            Share::OfStrike(percent) => percent_of(*percent, quote.strike, quote.lot),
+            Share::OfClose(percent) => percent_of(*percent, quote.close, quote.lot),
+        }
+    }
 }
 
 impl Band {
@@ -119,13 +112,6 @@ impl Band {
     {
         self.strike.holds(quote.strike, quote.close)
     }
-
-    fn floor(&self, quote: &Quote) -> u64
-        requires { ⌜ isAdmitted (now quote) ≡ true ⌝ }
-        ensures { λ r. ⌜ r ≡ floorIn (now (self .entry)) (now (quote .entry)) ⌝ }
-    {
-        percent_of(self.percent, self.base.of(quote), quote.lot)
-    }
 }
 
 fn first_floor(bands: &[Band], quote: &Quote) -> Option<u64>
@@ -134,7 +120,7 @@ fn first_floor(bands: &[Band], quote: &Quote) -> Option<u64>
 {
     for band in bands {
         if band.applies(quote) {
-            return Some(band.floor(quote));
+            return Some(band.floor.of(quote));
         }
     }
     None

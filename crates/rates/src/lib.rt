@@ -4,5 +4,6 @@ pub mod laws;
 pub mod list;
 pub mod percentages;
 pub mod rate_book;
+mod rounding;
 pub mod scale;
 pub mod surcharge;

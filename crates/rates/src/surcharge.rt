@@ -1,11 +1,14 @@
 // The house surcharge: raises the amounts of the rate book that it stands on.
 ghost use mathlib.Core.Path.{_≡_};
 ghost use Rattle.std.specs.Results.{Cases as ByOk};
-ghost use Rattle.rates.specs.Denials.{percentageLayer, percentageNumber, percentagePlace, Denied};
+ghost use Rattle.std.specs.declared.option.Option.the-variants.{Some};
+ghost use Rattle.rates.specs.Denials.{percentageLayer, percentageNumber, percentagePlace, percentageText, Denied};
 ghost use Rattle.rates.specs.Surcharged.{percentFor, raised, surcharged, surcharged-capped};
 use crate::percentages::Percentages;
 use crate::rate_book::Quote;
 use crate::rate_book::RateBook;
+use crate::rounding::rounded_up;
+use std::fmt;
 use terms::denial::Denial;
 use terms::denial::Layer;
 use terms::denial::Place;
@@ -37,6 +40,15 @@ pub impl Denial for PercentageAbove100 as PercentageDenial {
     }
 }
 
+pub impl fmt::Display for PercentageAbove100 as PercentageDisplay {
+    ghost shown = { λ fault. Some (percentageText fault) };
+
+    fn fmt<W: fmt::Write>(&self, f: &mut fmt::Formatter<W>) -> fmt::Result {
+        let security = self.security;
+        write!(f, "the percentage of security {security} is above 100")
+    }
+}
+
 impl Percentages {
     /// By security number; denied by the first that is above 100.
     pub fn new(each: [u64; 16]) -> Result<Percentages, PercentageAbove100>
@@ -51,9 +63,7 @@ impl Percentages {
         }
         Ok(Percentages { each })
     }
-}
 
-impl Percentages {
     /// The percentage of a security, and 0 past the listed ones.
     pub fn of(&self, security: u64) -> u64
         ensures { λ r. ⌜ r ≡ percentFor (now (self .entry) .each) security ⌝ }
@@ -69,7 +79,7 @@ impl Percentages {
         ensures { λ r. ⌜ r ≡ raised (percentFor (now (self .entry) .each) security) amount ⌝ }
     {
         let hundredths = u128::from(amount) * u128::from(100 + self.of(security));
-        hundredths.div_ceil(100).min(u128::from(CEILING)) as u64
+        rounded_up(hundredths).min(u128::from(CEILING)) as u64
     }
 }
 

@@ -7,7 +7,7 @@ use Rattle.rates.proofs.bands.first_floor.Needs as need
 
 pub returns-then-applies : need.returns-then-applies
 returns-then-applies c =
-    ap Some (c .floor .ensures)
+    ap Some (c .of .ensures)
     ∙ sym (here _ _ _ _ (c .loop-band-test .taken) (sym (c .if-applies .ensures tt)))
     ∙ c .loop-band .inv
 

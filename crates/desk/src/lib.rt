@@ -1,0 +1,2 @@
+// The desk: what a journal's commands act on.
+pub mod present;
