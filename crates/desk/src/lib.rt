@@ -1,2 +1,3 @@
-// The desk: what a journal's commands act on.
+// The desk: what a journal's commands act on, and their answers.
+pub mod desk;
 pub mod present;

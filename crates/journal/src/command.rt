@@ -1,0 +1,280 @@
+// The commands of a journal, read from its lines.
+ghost use mathlib.Core.Path.{_≡_};
+ghost use Prim.Native.Nat.{_<_};
+ghost use lib.ListN.{length};
+ghost use Rattle.std.specs.Vec.{made};
+ghost use Rattle.std.specs.shelf.Text.{sameBytes};
+ghost use Rattle.journal.specs.Words.{texts};
+ghost use Rattle.journal.specs.Commands.{numberAt, numbersFrom, faultAt, optionOf, optionAt, sourceOf, ratesBy, ratesOf, ratesScaleOf, ratesListOf, surchargeOf, rateOf, verbOf, orderBy, orderOf, isComment, reading, heard, listed, said};
+use crate::words::NotNumber;
+use crate::words::number;
+use crate::words::words;
+use rates::rate_book::Quote;
+use std::alloc::AllocError;
+use std::alloc::Global;
+use terms::OptionType;
+
+/// A command of the journal.
+#[derive(Drop)]
+pub enum Command {
+    RatesScale,
+    RatesList(Vec<u64>),
+    Surcharge([u64; 16]),
+    Rate(Quote),
+}
+
+/// Why a line is no command. A word goes by its index in the line, from 0.
+#[derive(Clone, Copy)]
+pub enum Unreadable {
+    UnknownCommand,
+    WordCount,
+    NoSuchRates,
+    NotNumber { word: usize },
+    TooManyDigits { word: usize },
+    NotOptionType { word: usize },
+}
+
+/// What a line says.
+#[derive(Drop)]
+pub enum Reading {
+    Skipped,
+    Command(Command),
+    Unreadable(Unreadable),
+}
+
+/// Reads a line, without its line feed. A line with no words, or that begins with `#`, is skipped.
+pub fn read(heap: Global, line: &[u8]) -> Result<Reading, AllocError>
+    ensures { λ r. ⌜ made r (λ g. said g ≡ reading (now (line .entry))) ⌝ }
+{
+    if is_comment(line) {
+        return Ok(Reading::Skipped);
+    }
+    let line = words(heap, line)?;
+    if line.is_empty() {
+        return Ok(Reading::Skipped);
+    }
+    match command_of(heap, line.as_slice())? {
+        Ok(command) => Ok(Reading::Command(command)),
+        Err(fault) => Ok(Reading::Unreadable(fault)),
+    }
+}
+
+fn is_comment(line: &[u8]) -> bool
+    ensures { λ r. ⌜ r ≡ isComment (now (line .entry)) ⌝ }
+{
+    !line.is_empty() && line[0] == b'#'
+}
+
+/// What the first word says.
+#[derive(Clone, Copy)]
+enum Verb {
+    Rates,
+    Surcharge,
+    Rate,
+}
+
+fn verb_of(word: &[u8]) -> Option<Verb>
+    ensures { λ r. ⌜ r ≡ verbOf (now (word .entry)) ⌝ }
+{
+    if is(word, "rates") {
+        Some(Verb::Rates)
+    } else if is(word, "surcharge") {
+        Some(Verb::Surcharge)
+    } else if is(word, "rate") {
+        Some(Verb::Rate)
+    } else {
+        None
+    }
+}
+
+fn command_of(heap: Global, line: &[&[u8]]) -> Result<Result<Command, Unreadable>, AllocError>
+    requires { ⌜ 0 < length (now line) ⌝ }
+    ensures { λ r. ⌜ made r (λ g. heard g ≡ orderOf (texts (now (line .entry)))) ⌝ }
+{
+    match verb_of(line[0]) {
+        Some(verb) => command_by(heap, verb, line),
+        None => Ok(Err(Unreadable::UnknownCommand)),
+    }
+}
+
+fn command_by(
+    heap: Global,
+    verb: Verb,
+    line: &[&[u8]],
+) -> Result<Result<Command, Unreadable>, AllocError>
+    ensures { λ r. ⌜ made r (λ g. heard g ≡ orderBy verb (texts (now (line .entry)))) ⌝ }
+{
+    match verb {
+        Verb::Rates => rates(heap, line),
+        Verb::Surcharge => Ok(surcharge(line)),
+        Verb::Rate => Ok(rate(line)),
+    }
+}
+
+/// What the second word of `rates` says.
+#[derive(Clone, Copy)]
+enum Source {
+    Scale,
+    Listed,
+}
+
+fn source_of(word: &[u8]) -> Option<Source>
+    ensures { λ r. ⌜ r ≡ sourceOf (now (word .entry)) ⌝ }
+{
+    if is(word, "scale") {
+        Some(Source::Scale)
+    } else if is(word, "list") {
+        Some(Source::Listed)
+    } else {
+        None
+    }
+}
+
+/// `rates scale`, or `rates list A B ..`.
+fn rates(heap: Global, line: &[&[u8]]) -> Result<Result<Command, Unreadable>, AllocError>
+    ensures { λ r. ⌜ made r (λ g. heard g ≡ ratesOf (texts (now (line .entry)))) ⌝ }
+{
+    if line.len() < 2 {
+        return Ok(Err(Unreadable::NoSuchRates));
+    }
+    match source_of(line[1]) {
+        Some(source) => rates_by(heap, source, line),
+        None => Ok(Err(Unreadable::NoSuchRates)),
+    }
+}
+
+fn rates_by(
+    heap: Global,
+    source: Source,
+    line: &[&[u8]],
+) -> Result<Result<Command, Unreadable>, AllocError>
+    ensures { λ r. ⌜ made r (λ g. heard g ≡ ratesBy source (texts (now (line .entry)))) ⌝ }
+{
+    match source {
+        Source::Scale => Ok(rates_scale(line)),
+        Source::Listed => rates_list(heap, line),
+    }
+}
+
+fn rates_scale(line: &[&[u8]]) -> Result<Command, Unreadable>
+    ensures { λ r. ⌜ heard r ≡ ratesScaleOf (texts (now (line .entry))) ⌝ }
+{
+    if line.len() == 2 {
+        Ok(Command::RatesScale)
+    } else {
+        Err(Unreadable::WordCount)
+    }
+}
+
+fn rates_list(heap: Global, line: &[&[u8]]) -> Result<Result<Command, Unreadable>, AllocError>
+    ensures { λ r. ⌜ made r (λ g. heard g ≡ ratesListOf (texts (now (line .entry)))) ⌝ }
+{
+    match numbers_from(heap, line, 2)? {
+        Ok(amounts) => Ok(Ok(Command::RatesList(amounts))),
+        Err(fault) => Ok(Err(fault)),
+    }
+}
+
+/// `surcharge P0 P1 ..`: 0 where none is given.
+fn surcharge(line: &[&[u8]]) -> Result<Command, Unreadable>
+    ensures { λ r. ⌜ heard r ≡ surchargeOf (texts (now (line .entry))) ⌝ }
+{
+    let mut percentages = [0; 16];
+    if line.len() > 1 + percentages.len() {
+        return Err(Unreadable::WordCount);
+    }
+    for k in 1..line.len() {
+        percentages[k - 1] = number_at(line, k)?;
+    }
+    Ok(Command::Surcharge(percentages))
+}
+
+/// `rate ROW SECURITY call STRIKE PREMIUM CLOSE LOT`, or `put`.
+fn rate(line: &[&[u8]]) -> Result<Command, Unreadable>
+    ensures { λ r. ⌜ heard r ≡ rateOf (texts (now (line .entry))) ⌝ }
+{
+    if line.len() != 8 {
+        return Err(Unreadable::WordCount);
+    }
+    let row = number_at(line, 1)?;
+    let security = number_at(line, 2)?;
+    let option = option_at(line, 3)?;
+    let strike = number_at(line, 4)?;
+    let premium = number_at(line, 5)?;
+    let close = number_at(line, 6)?;
+    let lot = number_at(line, 7)?;
+    Ok(Command::Rate(Quote {
+        row,
+        security,
+        option,
+        strike,
+        premium,
+        close,
+        lot,
+    }))
+}
+
+/// The numbers from the word of index `first` on.
+fn numbers_from(
+    heap: Global,
+    line: &[&[u8]],
+    first: usize,
+) -> Result<Result<Vec<u64>, Unreadable>, AllocError>
+    ensures { λ r. ⌜ made r (λ g. listed g ≡ numbersFrom (texts (now (line .entry))) first) ⌝ }
+{
+    let mut numbers = Vec::new(heap);
+    for k in first..line.len() {
+        match number_at(line, k) {
+            Ok(n) => numbers.push(n)?,
+            Err(fault) => return Ok(Err(fault)),
+        }
+    }
+    Ok(Ok(numbers))
+}
+
+fn number_at(line: &[&[u8]], word: usize) -> Result<u64, Unreadable>
+    requires { ⌜ word < length (now line) ⌝ }
+    ensures { λ r. ⌜ r ≡ numberAt (texts (now (line .entry))) word ⌝ }
+{
+    match number(line[word]) {
+        Ok(n) => Ok(n),
+        Err(fault) => Err(fault_at(word, fault)),
+    }
+}
+
+fn fault_at(word: usize, fault: NotNumber) -> Unreadable
+    ensures { λ r. ⌜ r ≡ faultAt word fault ⌝ }
+{
+    match fault {
+        NotNumber::NotDigits => Unreadable::NotNumber { word },
+        NotNumber::TooManyDigits => Unreadable::TooManyDigits { word },
+    }
+}
+
+fn option_at(line: &[&[u8]], word: usize) -> Result<OptionType, Unreadable>
+    requires { ⌜ word < length (now line) ⌝ }
+    ensures { λ r. ⌜ r ≡ optionAt (texts (now (line .entry))) word ⌝ }
+{
+    match option_of(line[word]) {
+        Some(option) => Ok(option),
+        None => Err(Unreadable::NotOptionType { word }),
+    }
+}
+
+fn option_of(word: &[u8]) -> Option<OptionType>
+    ensures { λ r. ⌜ r ≡ optionOf (now (word .entry)) ⌝ }
+{
+    if is(word, "call") {
+        Some(OptionType::Call)
+    } else if is(word, "put") {
+        Some(OptionType::Put)
+    } else {
+        None
+    }
+}
+
+fn is(word: &[u8], keyword: &str) -> bool
+    ensures { λ r. ⌜ r ≡ sameBytes (now (word .entry)) (now (keyword .entry)) ⌝ }
+{
+    word == keyword.as_bytes()
+}
