@@ -16,6 +16,7 @@ use rates::rate_book::Quote;
 use rates::rate_book::RateBook;
 use rates::scale::Scale;
 use std::alloc::Global;
+use terms::limits::SECURITIES;
 
 /// What the commands act on.
 #[derive(Drop)]
@@ -67,7 +68,7 @@ impl Desk {
         Answer::Done
     }
 
-    fn surcharge(&mut self, each: [u64; 16]) -> Answer
+    fn surcharge(&mut self, each: [u64; SECURITIES]) -> Answer
         ensures { λ r. ⌜ Surcharges each (presentRate (now (self .entry) .rates)) r (presentRate (now (self .exit) .rates)) ⌝ }
     {
         match Percentages::new(each) {
@@ -83,9 +84,15 @@ impl Desk {
         ensures told { λ r. ⌜ r ≡ rateAnswer (presentRate (now (self .entry) .rates) (now (quote .entry))) ⌝ }
         ensures kept { λ _. ⌜ presentRate (now (self .exit) .rates) ≡ presentRate (now (self .entry) .rates) ⌝ }
     {
-        match self.rates.rate(quote) {
-            Some(amount) => Answer::Rate(amount),
-            None => Answer::NoRate,
-        }
+        rate_answer(self.rates.rate(quote))
+    }
+}
+
+fn rate_answer(rate: Option<u64>) -> Answer
+    ensures { λ r. ⌜ r ≡ rateAnswer rate ⌝ }
+{
+    match rate {
+        Some(amount) => Answer::Rate(amount),
+        None => Answer::NoRate,
     }
 }

@@ -1,18 +1,12 @@
 // Reads a journal from standard input and answers each of its commands by a line on standard output.
 use desk::desk::Desk;
 use journal::answer::AnswerDisplay;
+use journal::words::without_line_feed;
 use std::io;
+use std::io::BufRead;
 use std::io::BufReader;
 use std::io::BufWriter;
 use std::io::Write;
-
-// The line without its line feed.
-fn trimmed(line: &[u8]) -> &[u8] {
-    match line.strip_suffix(b"\n") {
-        Some(text) => text,
-        None => line,
-    }
-}
 
 fn play(rt: &LibcRuntime) -> io::Result<()> {
     let heap = rt.alloc();
@@ -25,7 +19,7 @@ fn play(rt: &LibcRuntime) -> io::Result<()> {
         if input.read_until(b'\n', &mut line)? == 0 {
             break;
         }
-        if let Some(answer) = desk.answer(heap, trimmed(line.as_slice())) {
+        if let Some(answer) = desk.answer(heap, without_line_feed(line.as_slice())) {
             writeln!(output, "{answer}")?;
         }
     }

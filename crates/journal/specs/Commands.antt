@@ -43,6 +43,10 @@ pub data Saying : Type 0 where
   command : Order → Saying
   unreadable : Unreadable → Saying
 
+-- a word is a keyword
+unfoldable pub spells : List ℕ → List ℕ → Bool
+spells word keyword = sameBytes word keyword
+
 -- what is read next, unless a fault was found
 abbrev pub next : {X Y : Type 0} → Result X Unreadable → (X → Result Y Unreadable) → Result Y Unreadable
 next (Ok x) then = then x
@@ -78,30 +82,35 @@ numbersAt k (word ∷ line) =
 unfoldable pub numbersFrom : List (List ℕ) → ℕ → Result (List ℕ) Unreadable
 numbersFrom line k = numbersAt k (drop k line)
 
+-- nothing, where the line has n words
+unfoldable pub hasCount : List (List ℕ) → ℕ → Result (Unit {0}) Unreadable
+hasCount line n = cond (eqb (length line) n) (Ok tt) (Err WordCount)
+
 -- the option type that a word names
 abbrev pub optionOf : List ℕ → Option OptionType
 optionOf word =
-    cond (sameBytes word (codes "call")) (Some Call)
-    (cond (sameBytes word (codes "put")) (Some Put) None)
+    cond (spells word (codes "call")) (Some Call)
+    (cond (spells word (codes "put")) (Some Put) None)
 
 -- the option type at index k
 unfoldable pub optionAt : List (List ℕ) → ℕ → Result OptionType Unreadable
 optionAt line k = chosen (optionOf (getD line k [])) (NotOptionType k) Ok
 
 -- `rates scale`
-unfoldable pub ratesScaleOf : List (List ℕ) → Result Order Unreadable
-ratesScaleOf line = cond (eqb (length line) 2) (Ok ratesScale) (Err WordCount)
+abbrev pub ratesScaleOf : List (List ℕ) → Result Order Unreadable
+ratesScaleOf line = next (hasCount line 2) (λ _. Ok ratesScale)
 
 -- `rates list A B ..`
-unfoldable pub ratesListOf : List (List ℕ) → Result Order Unreadable
+abbrev pub ratesListOf : List (List ℕ) → Result Order Unreadable
 ratesListOf line = next (numbersFrom line 2) (λ amounts. Ok (ratesList amounts))
 
 -- where the rates come from, by the second word of `rates`
 abbrev pub sourceOf : List ℕ → Option Source
 sourceOf word =
-    cond (sameBytes word (codes "scale")) (Some source.Scale)
-    (cond (sameBytes word (codes "list")) (Some source.Listed) None)
+    cond (spells word (codes "scale")) (Some source.Scale)
+    (cond (spells word (codes "list")) (Some source.Listed) None)
 
+-- the rest of `rates`, by its second word
 abbrev pub ratesBy : Source → List (List ℕ) → Result Order Unreadable
 ratesBy source.Scale line = ratesScaleOf line
 ratesBy source.Listed line = ratesListOf line
@@ -118,10 +127,10 @@ surchargeOf line =
     (Err WordCount)
 
 -- `rate ROW SECURITY call STRIKE PREMIUM CLOSE LOT`, or `put`
-unfoldable pub rateOf : List (List ℕ) → Result Order Unreadable
+abbrev pub rateOf : List (List ℕ) → Result Order Unreadable
 rateOf line =
-    cond (eqb (length line) 8)
-    (next (numberAt line 1) (λ row.
+    next (hasCount line 8) (λ _.
+    next (numberAt line 1) (λ row.
     next (numberAt line 2) (λ security.
     next (optionAt line 3) (λ option.
     next (numberAt line 4) (λ strike.
@@ -129,15 +138,15 @@ rateOf line =
     next (numberAt line 6) (λ close.
     next (numberAt line 7) (λ lot.
     Ok (rate (record { row = row; security = security; option = option; strike = strike; premium = premium; close = close; lot = lot }))))))))))
-    (Err WordCount)
 
 -- the command that a word begins
 abbrev pub verbOf : List ℕ → Option Verb
 verbOf word =
-    cond (sameBytes word (codes "rates")) (Some verb.Rates)
-    (cond (sameBytes word (codes "surcharge")) (Some verb.Surcharge)
-    (cond (sameBytes word (codes "rate")) (Some verb.Rate) None))
+    cond (spells word (codes "rates")) (Some verb.Rates)
+    (cond (spells word (codes "surcharge")) (Some verb.Surcharge)
+    (cond (spells word (codes "rate")) (Some verb.Rate) None))
 
+-- the rest of a command, by its first word
 abbrev pub orderBy : Verb → List (List ℕ) → Result Order Unreadable
 orderBy verb.Rates line = ratesOf line
 orderBy verb.Surcharge line = surchargeOf line
@@ -147,6 +156,7 @@ orderBy verb.Rate line = rateOf line
 unfoldable pub orderOf : List (List ℕ) → Result Order Unreadable
 orderOf line = chosen (verbOf (getD line 0 [])) UnknownCommand (λ verb. orderBy verb line)
 
+-- a command or a fault, as what a line says
 abbrev pub saying : Result Order Unreadable → Saying
 saying (Ok order) = command order
 saying (Err fault) = unreadable fault
@@ -164,21 +174,24 @@ isComment line = eqb (getD line 0 0) 35
 abbrev pub reading : List ℕ → Saying
 reading line = cond (isComment line) skipped (sayingOf (wordsOf line))
 
--- the code's types as those above
+-- a command that was read, with plain lists
 abbrev pub ordered : Command → Order
 ordered code.RatesScale = ratesScale
 ordered (code.RatesList amounts) = ratesList (vec-items amounts)
 ordered (code.Surcharge percentages) = surcharge percentages
 ordered (code.Rate quote) = rate quote
 
+-- what was read of the words, with plain lists
 abbrev pub heard : Result Command Unreadable → Result Order Unreadable
 heard (Ok given) = Ok (ordered given)
 heard (Err fault) = Err fault
 
+-- numbers that were read, as a plain list
 abbrev pub listed : Result (Vec ℕ Global) Unreadable → Result (List ℕ) Unreadable
 listed (Ok numbers) = Ok (vec-items numbers)
 listed (Err fault) = Err fault
 
+-- what was read of a line, with plain lists
 abbrev pub said : Reading → Saying
 said reads.Skipped = skipped
 said (reads.Command given) = command (ordered given)

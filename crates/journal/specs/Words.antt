@@ -1,17 +1,23 @@
 -- The words of a line, and the number that a word writes.
 use mathlib.Core.Bool.{Bool, true, cond, _&&_}
 use mathlib.Core.List.{List, [], _∷_, map}
-use Prim.Native.Nat.{ℕ, suc}
+use mathlib.Core.Path.{_≡_}
+use Prim.Native.Nat.{ℕ, suc, _-_}
 use denote.Ref.{RefT}
 use lib.Dec.{eqb, leb, ltb}
-use lib.ListN.{length}
+use lib.ListN.{length, getD, take}
+use Rattle.std.specs.Pieces.{Lacks, rejoined}
 use Rattle.std.specs.Reads.{value}
 use Rattle.std.specs.Text.{asciiDigit}
-use Rattle.std.specs.shelf.Lists.{kept-by}
+use Rattle.std.specs.shelf.Lists.{All, kept-by}
 use Rattle.std.specs.declared.result.Result.{Result}
 use Rattle.std.specs.declared.result.Result.the-variants.{Ok, Err}
 use Rattle.journal.specs.declared.words.NotNumber.{NotNumber}
 use Rattle.journal.specs.declared.words.NotNumber.the-variants.{NotDigits, TooManyDigits}
+
+-- a line without its last byte, where that is a line feed
+abbrev pub withoutLineFeed : List ℕ → List ℕ
+withoutLineFeed line = cond (eqb (getD line (length line - 1) 0) 10) (take (length line - 1) line) line
 
 -- a byte put before the first of the pieces
 abbrev pub before : ℕ → List (List ℕ) → List (List ℕ)
@@ -26,6 +32,13 @@ pieces (b ∷ line) = cond (eqb b 32) ([] ∷ pieces line) (before b (pieces lin
 -- the words of a line: the pieces that are not empty
 abbrev pub wordsOf : List ℕ → List (List ℕ)
 wordsOf line = kept-by (λ piece. ltb 0 (length piece)) (pieces line)
+
+-- the words are what is not empty of some parts, none of which has a space, that a space between each two makes the line again
+pub record Cuts (words : List (List ℕ)) (line : List ℕ) : Type 0 where
+  pub parts : List (List ℕ)
+  pub whole : rejoined 32 parts ≡ line
+  pub apart : All (λ part. Lacks 32 part) parts
+  pub kept : words ≡ kept-by (λ part. ltb 0 (length part)) parts
 
 -- how many bytes stand before the first space
 abbrev pub toSpace : List ℕ → ℕ

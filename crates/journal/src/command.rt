@@ -3,9 +3,8 @@ ghost use mathlib.Core.Path.{_≡_};
 ghost use Prim.Native.Nat.{_<_};
 ghost use lib.ListN.{length};
 ghost use Rattle.std.specs.Vec.{made};
-ghost use Rattle.std.specs.shelf.Text.{sameBytes};
 ghost use Rattle.journal.specs.Words.{texts};
-ghost use Rattle.journal.specs.Commands.{numberAt, numbersFrom, faultAt, optionOf, optionAt, sourceOf, ratesBy, ratesOf, ratesScaleOf, ratesListOf, surchargeOf, rateOf, verbOf, orderBy, orderOf, isComment, reading, heard, listed, said};
+ghost use Rattle.journal.specs.Commands.{spells, hasCount, numberAt, numbersFrom, faultAt, optionOf, optionAt, sourceOf, ratesBy, ratesOf, ratesScaleOf, ratesListOf, surchargeOf, rateOf, verbOf, orderBy, orderOf, isComment, reading, heard, listed, said};
 use crate::words::NotNumber;
 use crate::words::number;
 use crate::words::words;
@@ -13,6 +12,12 @@ use rates::rate_book::Quote;
 use std::alloc::AllocError;
 use std::alloc::Global;
 use terms::OptionType;
+
+/// How many words `rates scale` is.
+const SCALE_WORDS: usize = 2;
+
+/// How many words `rate ROW SECURITY call STRIKE PREMIUM CLOSE LOT` is.
+const RATE_WORDS: usize = 8;
 
 /// A command of the journal.
 #[derive(Drop)]
@@ -159,11 +164,8 @@ fn rates_by(
 fn rates_scale(line: &[&[u8]]) -> Result<Command, Unreadable>
     ensures { λ r. ⌜ heard r ≡ ratesScaleOf (texts (now (line .entry))) ⌝ }
 {
-    if line.len() == 2 {
-        Ok(Command::RatesScale)
-    } else {
-        Err(Unreadable::WordCount)
-    }
+    counted(line, SCALE_WORDS)?;
+    Ok(Command::RatesScale)
 }
 
 fn rates_list(heap: Global, line: &[&[u8]]) -> Result<Result<Command, Unreadable>, AllocError>
@@ -193,9 +195,7 @@ fn surcharge(line: &[&[u8]]) -> Result<Command, Unreadable>
 fn rate(line: &[&[u8]]) -> Result<Command, Unreadable>
     ensures { λ r. ⌜ heard r ≡ rateOf (texts (now (line .entry))) ⌝ }
 {
-    if line.len() != 8 {
-        return Err(Unreadable::WordCount);
-    }
+    counted(line, RATE_WORDS)?;
     let row = number_at(line, 1)?;
     let security = number_at(line, 2)?;
     let option = option_at(line, 3)?;
@@ -230,6 +230,17 @@ fn numbers_from(
         }
     }
     Ok(Ok(numbers))
+}
+
+fn counted(line: &[&[u8]], count: usize) -> Result<(), Unreadable>
+    ensures value { λ r. ⌜ r ≡ hasCount (texts (now (line .entry))) count ⌝ }
+    ensures long { λ r. ⌜ made r (λ _. length (now (line .entry)) ≡ count) ⌝ }
+{
+    if line.len() == count {
+        Ok(())
+    } else {
+        Err(Unreadable::WordCount)
+    }
 }
 
 fn number_at(line: &[&[u8]], word: usize) -> Result<u64, Unreadable>
@@ -274,7 +285,7 @@ fn option_of(word: &[u8]) -> Option<OptionType>
 }
 
 fn is(word: &[u8], keyword: &str) -> bool
-    ensures { λ r. ⌜ r ≡ sameBytes (now (word .entry)) (now (keyword .entry)) ⌝ }
+    ensures { λ r. ⌜ r ≡ spells (now (word .entry)) (now (keyword .entry)) ⌝ }
 {
     word == keyword.as_bytes()
 }

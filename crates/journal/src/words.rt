@@ -2,7 +2,7 @@
 ghost use mathlib.Core.Path.{_≡_};
 ghost use Rattle.std.specs.Of.Vec.{vec-items};
 ghost use Rattle.std.specs.Vec.{made};
-ghost use Rattle.journal.specs.Words.{wordsOf, toSpace, texts, allDigits, numberOf};
+ghost use Rattle.journal.specs.Words.{withoutLineFeed, wordsOf, Cuts, toSpace, texts, allDigits, numberOf};
 use std::alloc::AllocError;
 use std::alloc::Global;
 
@@ -16,9 +16,25 @@ pub enum NotNumber {
     TooManyDigits,
 }
 
+/// A line without its line feed, where it ends with one.
+pub fn without_line_feed(line: &[u8]) -> &[u8]
+    ensures { λ r. ⌜ now r ≡ withoutLineFeed (now (line .entry)) ⌝ }
+{
+    if line.is_empty() {
+        return line;
+    }
+    let last = line.len() - 1;
+    if line[last] == b'\n' {
+        &line[0..last]
+    } else {
+        line
+    }
+}
+
 /// The words of a line: its longest runs of bytes other than spaces.
 pub fn words<'a>(heap: Global, line: &'a [u8]) -> Result<Vec<&'a [u8]>, AllocError>
-    ensures { λ r. ⌜ made r (λ v. texts (vec-items v) ≡ wordsOf (now (line .entry))) ⌝ }
+    ensures value { λ r. ⌜ made r (λ v. texts (vec-items v) ≡ wordsOf (now (line .entry))) ⌝ }
+    ensures cuts { λ r. ⌜ made r (λ v. Cuts (texts (vec-items v)) (now (line .entry))) ⌝ }
 {
     let mut words = Vec::new(heap);
     let mut rest = line;

@@ -1,5 +1,6 @@
 // Rate books: the guarantee that one uncovered written lot asks for.
 mod bands;
+mod entries;
 pub mod laws;
 pub mod list;
 pub mod percentages;

@@ -2,6 +2,7 @@
 ghost use mathlib.Core.Path.{_≡_};
 ghost use denote.Ref.{now};
 ghost use Rattle.rates.specs.Published.{entryRate, publishedRate, published-capped};
+use crate::entries::entry;
 use crate::rate_book::Quote;
 use crate::rate_book::RateBook;
 use terms::limits::CEILING;
@@ -26,7 +27,7 @@ pub impl RateBook for PublishedList<'_> as PublishedRates {
     ghost capped = { λ list q. published-capped (now (list .amounts)) (q .row) };
 
     fn rate(&mut self, quote: &Quote) -> Option<u64> {
-        let amount = *self.amounts.get(quote.row as usize)?;
+        let amount = entry(self.amounts, quote.row);
         if (1..=CEILING).contains(&amount) {
             Some(amount)
         } else {

@@ -1,9 +1,11 @@
 // The house surcharge: raises the amounts of the rate book that it stands on.
 ghost use mathlib.Core.Path.{_≡_};
+ghost use Prim.Native.Nat.{_+_, _*_, _≤_};
 ghost use Rattle.std.specs.Results.{Cases as ByOk};
 ghost use Rattle.std.specs.declared.option.Option.the-variants.{Some};
 ghost use Rattle.rates.specs.Denials.{percentageLayer, percentageNumber, percentagePlace, percentageText, Denied};
 ghost use Rattle.rates.specs.Surcharged.{percentFor, raised, surcharged, surcharged-capped};
+use crate::entries::entry;
 use crate::percentages::Percentages;
 use crate::rate_book::Quote;
 use crate::rate_book::RateBook;
@@ -13,6 +15,7 @@ use terms::denial::Denial;
 use terms::denial::Layer;
 use terms::denial::Place;
 use terms::limits::CEILING;
+use terms::limits::SECURITIES;
 
 /// A percentage above 100, by its security.
 #[derive(Clone, Copy, PartialEq, Eq, Debug)]
@@ -51,7 +54,7 @@ pub impl fmt::Display for PercentageAbove100 as PercentageDisplay {
 
 impl Percentages {
     /// By security number; denied by the first that is above 100.
-    pub fn new(each: [u64; 16]) -> Result<Percentages, PercentageAbove100>
+    pub fn new(each: [u64; SECURITIES]) -> Result<Percentages, PercentageAbove100>
         ensures { λ r. ⌜ ByOk r (λ p. p .each ≡ each) (λ fault. Denied each fault) ⌝ }
     {
         for (security, percent) in each.iter().enumerate() {
@@ -66,21 +69,25 @@ impl Percentages {
 
     /// The percentage of a security, and 0 past the listed ones.
     pub fn of(&self, security: u64) -> u64
-        ensures { λ r. ⌜ r ≡ percentFor (now (self .entry) .each) security ⌝ }
+        ensures value { λ r. ⌜ r ≡ percentFor (now (self .entry) .each) security ⌝ }
+        ensures bound { λ r. ⌜ r ≤ 100 ⌝ }
     {
-        match self.each.get(security as usize) {
-            Some(percent) => *percent,
-            None => 0,
-        }
+        entry(&self.each, security)
     }
 
     /// An amount with the surcharge of its security.
     pub fn raise(&self, security: u64, amount: u64) -> u64
         ensures { λ r. ⌜ r ≡ raised (percentFor (now (self .entry) .each) security) amount ⌝ }
     {
-        let hundredths = u128::from(amount) * u128::from(100 + self.of(security));
-        rounded_up(hundredths).min(u128::from(CEILING)) as u64
+        rounded_up(hundredths(amount, self.of(security))).min(u128::from(CEILING)) as u64
     }
+}
+
+fn hundredths(amount: u64, percent: u64) -> u128
+    requires { ⌜ percent ≤ 100 ⌝ }
+    ensures { λ r. ⌜ r ≡ amount * (100 + percent) ⌝ }
+{
+    u128::from(amount) * u128::from(100 + percent)
 }
 
 /// A rate book with the house's surcharge on each of its amounts.
@@ -99,7 +106,7 @@ pub struct DeniedSurcharge<R> {
 
 impl<R: RateBook> Surcharge<R> {
     /// On a rate book, by security number; denied by the first percentage that is above 100.
-    pub fn new(below: R, each: [u64; 16]) -> Result<Surcharge<R>, DeniedSurcharge<R>>
+    pub fn new(below: R, each: [u64; SECURITIES]) -> Result<Surcharge<R>, DeniedSurcharge<R>>
         ensures { λ r. ⌜ ByOk r (λ s. (s .below ≡ below) × (s .percentages .each ≡ each)) (λ d. (d .below ≡ below) × Denied each (d .fault)) ⌝ }
     {
         match Percentages::new(each) {

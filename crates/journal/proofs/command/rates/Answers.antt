@@ -5,12 +5,12 @@ use lib.ListN.{length}
 use Rattle.std.proofs.shelf.Lists.{getD-past}
 use Rattle.journal.specs.declared.command.Unreadable.the-variants.{NoSuchRates}
 use Rattle.journal.specs.Words.{texts}
-use Rattle.journal.specs.Commands.{chosen, sourceOf, ratesBy, ratesOf}
+use Rattle.journal.specs.Commands.{spells, chosen, sourceOf, ratesBy, ratesOf}
 use Rattle.journal.proofs.Lines.{length-texts, word-at}
 use Rattle.journal.proofs.command.rates.Needs as need
 
 pub returns-then-line-lt2 : need.returns-then-line-lt2
-unfolding ratesOf
+unfolding ratesOf spells
 returns-then-line-lt2 c =
     let line = texts (c .args .line .now) in
     let none : length line ≤ 1 = rw length-texts (omega arith) in

@@ -1,19 +1,14 @@
-use mathlib.Core.Path.{refl, sym}
+use mathlib.Core.Path.{sym}
 use native.Mathlib.Omega.{arith}
 use Rattle.std.proofs.shelf.Tests.{eqb-false}
 use Rattle.journal.proofs.Digits.{turn, ends}
 use Rattle.journal.proofs.words.number.Needs as need
 
-pub loop-digit-holds : need.loop-digit-holds
-loop-digit-holds c =
-    let all = sym (c .if-not-all-digits .ensures tt) in
-    record { few = c .if-word-gt-MAX-DIGITS .left; all = all; left = all; writes = refl }
-
 pub mul-n : need.mul-n
 mul-n c = omega (arith, turn (c .loop-digit .inv) (c .loop-digit-test .taken) .small)
 
 pub sub-digit : need.sub-digit
-sub-digit c = turn (c .loop-digit .inv) (c .loop-digit-test .taken) .digit
+sub-digit c = omega (arith, turn (c .loop-digit .inv) (c .loop-digit-test .taken) .digit)
 
 pub add-n : need.add-n
 add-n c = omega (arith, turn (c .loop-digit .inv) (c .loop-digit-test .taken) .small)

@@ -8,7 +8,7 @@ use Rattle.std.proofs.shelf.Lists.{take-rest, nil-from-length}
 use Rattle.std.proofs.shelf.Tests.{eqb-true, eqb-false}
 use Rattle.std.specs.Results.{isOk}
 use Rattle.journal.specs.Words.{toSpace}
-use Rattle.journal.proofs.Cuts.{space-within, skips, one-more}
+use Rattle.journal.proofs.Cuts.{space-within, skips, one-more, cuts}
 use Rattle.journal.proofs.words.words.Needs as need
 
 pub split-at-requires : need.split-at-requires
@@ -32,4 +32,5 @@ loop-rest-again c =
 pub returns : need.returns
 returns c =
     let none = nil-from-length _ (eqb-true _ 0 (sym (c .loop-rest-test .ensures tt))) in
-    sym (append-nil _) ∙ (rw none at (c .loop-rest .inv))
+    let value = sym (append-nil _) ∙ (rw none at (c .loop-rest .inv)) in
+    record { value = value; cuts = rw value (cuts (c .args .line .now)) }

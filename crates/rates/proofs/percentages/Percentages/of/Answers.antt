@@ -1,10 +1,9 @@
 use mathlib.Core.Path.{sym}
-use Prim.Native.Nat.{_≤_}
-use lib.ListN.{length}
-use borrow.Author.Needs.{needs}
-use Rattle.std.proofs.shelf.Lists.{getD-past}
+use native.Mathlib.Omega.{arith}
+use Rattle.rates.proofs.Fair.{fair-at}
 use Rattle.rates.proofs.percentages.Percentages.of.Needs as need
 
-pub returns-in-None : need.returns-in-None
-returns-in-None c =
-    let past : length (c .args .self .now .each) ≤ c .args .security = search needs in sym (getD-past _ _ 0 past)
+pub returns : need.returns
+returns c =
+    let fair = fair-at (c .args .self .now .each) (c .args .security) (c .args .self .now .fair) in
+    record { value = c .entry .ensures; bound = omega (arith, c .entry .ensures) }
