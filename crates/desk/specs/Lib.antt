@@ -1,2 +1,3 @@
 pub mod Present
+pub mod Sheets
 pub mod Answers

@@ -1,16 +1,20 @@
 // Carries out the commands of a journal.
 ghost use mathlib.Core.Path.{_≡_};
-ghost use Rattle.journal.specs.Commands.{reading, ordered};
+ghost use Rattle.std.specs.declared.option.Option.{Option as Maybe};
+ghost use Rattle.journal.specs.Commands.{ordered, said};
 ghost use Rattle.rates.specs.Scale.{scaleRate};
 ghost use Rattle.desk.specs.Present.{baseRate, presentRate};
-ghost use Rattle.desk.specs.Answers.{Surcharges, CarriesOut, Answers, rateAnswer};
+ghost use Rattle.desk.specs.Answers.{contents, Checks, Copies, Surcharges, CarriesOut, Answers, rateAnswer};
 use crate::present::Base;
 use crate::present::PresentRateBook;
 use crate::present::PresentRates;
+use crate::sheets;
 use journal::answer::Answer;
+use journal::answer::Reply;
 use journal::command::Command;
 use journal::command::Reading;
-use journal::command::read;
+use journal::command::SheetFile;
+use journal::fault::Fault;
 use rates::percentages::Percentages;
 use rates::rate_book::Quote;
 use rates::rate_book::RateBook;
@@ -34,29 +38,28 @@ impl Desk {
         }
     }
 
-    /// Answers one line of a journal, without its line feed; no answer where the line is skipped.
-    pub fn answer(&mut self, heap: Global, line: &[u8]) -> Option<Answer>
-        ensures { λ r. ⌜ Answers (reading (now (line .entry))) (presentRate (now (self .entry) .rates)) r (presentRate (now (self .exit) .rates)) ⌝ }
+    /// Answers what a line of a journal says; nothing where the line is skipped. `file` is what the file holds that the
+    /// line names, and none where it names none or the file cannot be opened.
+    pub fn answer(&mut self, heap: Global, line: Reading, file: Option<Vec<u8>>) -> Option<Reply>
+        ensures { λ r. ⌜ Answers (said line) (contents file) (presentRate (now (self .entry) .rates)) r (presentRate (now (self .exit) .rates)) ⌝ }
     {
-        let said = match read(heap, line) {
-            Ok(said) => said,
-            Err(_) => return Some(Answer::NoMemory),
-        };
-        match said {
+        match line {
             Reading::Skipped => None,
-            Reading::Unreadable(fault) => Some(Answer::Error(fault)),
-            Reading::Command(command) => Some(self.carry_out(command)),
+            Reading::Unreadable(fault) => Some(Reply::Line(Answer::Error(fault))),
+            Reading::Command(command) => Some(self.carry_out(heap, command, file)),
         }
     }
 
-    fn carry_out(&mut self, command: Command) -> Answer
-        ensures { λ r. ⌜ CarriesOut (ordered command) (presentRate (now (self .entry) .rates)) r (presentRate (now (self .exit) .rates)) ⌝ }
+    fn carry_out(&mut self, heap: Global, command: Command, file: Option<Vec<u8>>) -> Reply
+        ensures { λ r. ⌜ CarriesOut (ordered command) (contents file) (presentRate (now (self .entry) .rates)) r (presentRate (now (self .exit) .rates)) ⌝ }
     {
         match command {
-            Command::RatesScale => self.ask(Base::Scale(Scale)),
-            Command::RatesList(amounts) => self.ask(Base::List(amounts)),
-            Command::Surcharge(each) => self.surcharge(each),
-            Command::Rate(quote) => self.rate(&quote),
+            Command::RatesScale => Reply::Line(self.ask(Base::Scale(Scale))),
+            Command::RatesList(amounts) => Reply::Line(self.ask(Base::List(amounts))),
+            Command::Surcharge(each) => Reply::Line(self.surcharge(each)),
+            Command::Rate(quote) => Reply::Line(self.rate(&quote)),
+            Command::Check(sheet) => Reply::Line(check(sheet, file)),
+            Command::Copy(sheet) => copy(heap, sheet, file),
         }
     }
 
@@ -76,7 +79,7 @@ impl Desk {
                 Ok(()) => Answer::Done,
                 Err(_) => Answer::NoMemory,
             },
-            Err(fault) => Answer::Denied(fault),
+            Err(fault) => Answer::Denied(Fault::Surcharge(fault)),
         }
     }
 
@@ -94,5 +97,23 @@ fn rate_answer(rate: Option<u64>) -> Answer
     match rate {
         Some(amount) => Answer::Rate(amount),
         None => Answer::NoRate,
+    }
+}
+
+fn check(sheet: SheetFile, file: Option<Vec<u8>>) -> Answer
+    ensures { λ r. ⌜ Checks (sheet .day) (contents file) r ⌝ }
+{
+    match file {
+        Some(text) => sheets::check(sheet.day, text.as_slice()),
+        None => Answer::NoFile,
+    }
+}
+
+fn copy(heap: Global, sheet: SheetFile, file: Option<Vec<u8>>) -> Reply
+    ensures { λ r. ⌜ Copies (sheet .day) (contents file) r ⌝ }
+{
+    match file {
+        Some(text) => sheets::copy(heap, sheet.day, text.as_slice()),
+        None => Reply::Line(Answer::NoFile),
     }
 }

@@ -4,6 +4,8 @@ mod proved;
 
 use desk::desk::Desk;
 use journal::answer::AnswerDisplay;
+use journal::answer::Reply;
+use journal::command::read;
 use nested::surcharged_twice;
 use rates::laws::laws_stand;
 use rates::rate_book::Quote;
@@ -14,23 +16,31 @@ use std::io::BufRead;
 use std::io::BufReader;
 use terms::OptionType;
 
+// What the desk answers; none to a blank line and a comment.
+fn answered(heap: Global, desk: &mut Desk, command: &str) -> Result<Option<String>, AllocError> {
+    match desk.answer(heap, read(heap, command.as_bytes())?, None) {
+        Some(Reply::Line(answer)) => Ok(Some(answer.to_string(heap)?)),
+        Some(Reply::Sheet(_)) => Ok(Some(String::from_str(heap, "a sheet")?)),
+        None => Ok(None),
+    }
+}
+
 // What is said to be the answer to a command, and what the desk answers.
 #[derive(Drop)]
 struct Comparison {
-    expected: String,
-    answered: String,
+    figure: String,
+    answer: String,
 }
 
-// None for a blank line and a comment.
 fn compare(heap: Global, desk: &mut Desk, line: &str) -> Result<Option<Comparison>, AllocError> {
-    let (command, expected) = match line.split_once(" = ") {
+    let (command, figure) = match line.split_once(" = ") {
         Some(parts) => parts,
         None => (line, "a figure"),
     };
-    match desk.answer(heap, command.as_bytes()) {
+    match answered(heap, desk, command)? {
         Some(answer) => Ok(Some(Comparison {
-            expected: String::from_str(heap, expected)?,
-            answered: answer.to_string(heap)?,
+            figure: String::from_str(heap, figure)?,
+            answer,
         })),
         None => Ok(None),
     }
@@ -43,13 +53,12 @@ fn compare_all(rt: &LibcRuntime) -> io::Result<()> {
     let mut differ: u64 = 0;
     for line in BufReader::new(rt.stdin()).lines(heap) {
         let line = line?;
-        if let Some(figure) = compare(heap, &mut desk, line.as_str())? {
-            if figure.expected == figure.answered {
+        if let Some(Comparison { figure, answer }) = compare(heap, &mut desk, line.as_str())? {
+            if figure == answer {
                 agree = agree.saturating_add(1);
             } else {
                 differ = differ.saturating_add(1);
-                let answered = figure.answered;
-                println!(rt, "{line}, but the answer is {answered}")?;
+                println!(rt, "{line}, but the answer is {answer}")?;
             }
         }
     }
@@ -75,10 +84,10 @@ fn compare_nested(rt: &LibcRuntime) -> io::Result<()> {
 
 fn main(rt: LibcRuntime) -> io::Result<()> {
     let figures = proved::proved_figures();
-    let laws = laws_stand();
+    laws_stand();
     println!(
         rt,
-        "{figures} figures and {laws} laws follow from the definitions"
+        "{figures} figures and the laws of rates follow from the definitions"
     )?;
     compare_nested(&rt)?;
     compare_all(&rt)

@@ -4,12 +4,12 @@ use Prim.Native.Nat.{ℕ}
 use lib.Chars.{codes}
 use Rattle.std.specs.Written.{decimal}
 use Rattle.terms.specs.Texts.{layerText, placeText}
-use Rattle.rates.specs.declared.surcharge.PercentageAbove100.{PercentageAbove100}
-use Rattle.rates.specs.Denials.{percentageLayer, percentageNumber, percentagePlace, percentageText}
+use Rattle.journal.specs.Faults.{faultLayer, faultNumber, faultPlace, faultText}
+use Rattle.journal.specs.declared.fault.Fault.{Fault}
 use Rattle.journal.specs.declared.command.Unreadable.{Unreadable}
 use Rattle.journal.specs.declared.command.Unreadable.the-variants.{UnknownCommand, WordCount, NoSuchRates, NotNumber, TooManyDigits, NotOptionType}
 use Rattle.journal.specs.declared.answer.Answer.{Answer}
-use Rattle.journal.specs.declared.answer.Answer.the-variants.{Done, Rate, NoRate, Denied, Error, NoMemory}
+use Rattle.journal.specs.declared.answer.Answer.the-variants.{Done, Rate, NoRate, Read, Denied, Error, NoFile, NoMemory}
 
 -- what is wrong with the word of an index in its line, the first word being 0
 abbrev word : ℕ → List ℕ → List ℕ
@@ -24,15 +24,17 @@ unreadableText (TooManyDigits k) = word k (codes " has more than 18 digits")
 unreadableText (NotOptionType k) = word k (codes " is neither call nor put")
 
 -- `denied LAYER NUMBER`, the place if there is one, and the reason
-abbrev pub deniedText : PercentageAbove100 → List ℕ
+abbrev pub deniedText : Fault → List ℕ
 deniedText fault =
     codes "denied "
-    ++ (layerText (percentageLayer fault) ++ (codes " " ++ (decimal (percentageNumber fault) ++ (placeText (percentagePlace fault) ++ (codes ": " ++ percentageText fault)))))
+    ++ (layerText (faultLayer fault) ++ (codes " " ++ (decimal (faultNumber fault) ++ (placeText (faultPlace fault) ++ (codes ": " ++ faultText fault)))))
 
 abbrev pub answerText : Answer → List ℕ
 answerText Done = codes "ok"
 answerText (Rate amount) = codes "rate " ++ decimal amount
 answerText NoRate = codes "no rate"
+answerText (Read count) = codes "read " ++ decimal count
 answerText (Denied fault) = deniedText fault
 answerText (Error fault) = codes "error: " ++ unreadableText fault
+answerText NoFile = codes "error: the file cannot be opened"
 answerText NoMemory = codes "error: out of memory"

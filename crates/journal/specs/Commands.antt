@@ -25,6 +25,7 @@ use Rattle.journal.specs.declared.command.Source.{Source}
 use Rattle.journal.specs.declared.command.Source.the-variants as source
 use Rattle.journal.specs.declared.command.Command.{Command}
 use Rattle.journal.specs.declared.command.Command.the-variants as code
+use Rattle.journal.specs.declared.command.SheetFile.{SheetFile}
 use Rattle.journal.specs.declared.command.Unreadable.{Unreadable}
 use Rattle.journal.specs.declared.command.Unreadable.the-variants.{UnknownCommand, WordCount, NoSuchRates, NotNumber, TooManyDigits, NotOptionType}
 use Rattle.journal.specs.declared.command.Reading.{Reading}
@@ -36,6 +37,8 @@ pub data Order : Type 0 where
   ratesList : List ℕ → Order
   surcharge : List ℕ → Order
   rate : Quote → Order
+  check : (day : ℕ) (file : List ℕ) → Order
+  copy : (day : ℕ) (file : List ℕ) → Order
 
 -- what a line says
 pub data Saying : Type 0 where
@@ -139,18 +142,43 @@ rateOf line =
     next (numberAt line 7) (λ lot.
     Ok (rate (record { row = row; security = security; option = option; strike = strike; premium = premium; close = close; lot = lot }))))))))))
 
+-- the day of `check DAY FILE` and `copy DAY FILE`
+abbrev pub sheetDayOf : List (List ℕ) → Result ℕ Unreadable
+sheetDayOf line = next (hasCount line 3) (λ _. numberAt line 1)
+
+-- a day and a file
+pub record DatedFile : Type 0 where
+  pub day : ℕ
+  pub file : List ℕ
+
+-- the day and the file of `check DAY FILE` and `copy DAY FILE`
+unfoldable pub sheetFileOf : List (List ℕ) → Result DatedFile Unreadable
+sheetFileOf line = next (sheetDayOf line) (λ day. Ok (record { day = day; file = getD line 2 [] }))
+
+-- `check DAY FILE`
+abbrev pub checkOf : List (List ℕ) → Result Order Unreadable
+checkOf line = next (sheetFileOf line) (λ sheet. Ok (check (sheet .day) (sheet .file)))
+
+-- `copy DAY FILE`
+abbrev pub copyOf : List (List ℕ) → Result Order Unreadable
+copyOf line = next (sheetFileOf line) (λ sheet. Ok (copy (sheet .day) (sheet .file)))
+
 -- the command that a word begins
 abbrev pub verbOf : List ℕ → Option Verb
 verbOf word =
     cond (spells word (codes "rates")) (Some verb.Rates)
     (cond (spells word (codes "surcharge")) (Some verb.Surcharge)
-    (cond (spells word (codes "rate")) (Some verb.Rate) None))
+    (cond (spells word (codes "rate")) (Some verb.Rate)
+    (cond (spells word (codes "check")) (Some verb.Check)
+    (cond (spells word (codes "copy")) (Some verb.Copy) None))))
 
 -- the rest of a command, by its first word
 abbrev pub orderBy : Verb → List (List ℕ) → Result Order Unreadable
 orderBy verb.Rates line = ratesOf line
 orderBy verb.Surcharge line = surchargeOf line
 orderBy verb.Rate line = rateOf line
+orderBy verb.Check line = checkOf line
+orderBy verb.Copy line = copyOf line
 
 -- the command that the words of a line give
 unfoldable pub orderOf : List (List ℕ) → Result Order Unreadable
@@ -174,12 +202,29 @@ isComment line = eqb (getD line 0 0) 35
 abbrev pub reading : List ℕ → Saying
 reading line = cond (isComment line) skipped (sayingOf (wordsOf line))
 
+-- the file that a command wants to read
+abbrev pub orderFile : Order → Option (List ℕ)
+orderFile ratesScale = None
+orderFile (ratesList amounts) = None
+orderFile (surcharge percentages) = None
+orderFile (rate quote) = None
+orderFile (check day file) = Some file
+orderFile (copy day file) = Some file
+
+-- the file that a line names
+abbrev pub fileOf : Saying → Option (List ℕ)
+fileOf skipped = None
+fileOf (command order) = orderFile order
+fileOf (unreadable fault) = None
+
 -- a command that was read, with plain lists
 abbrev pub ordered : Command → Order
 ordered code.RatesScale = ratesScale
 ordered (code.RatesList amounts) = ratesList (vec-items amounts)
 ordered (code.Surcharge percentages) = surcharge percentages
 ordered (code.Rate quote) = rate quote
+ordered (code.Check sheet) = check (sheet .day) (vec-items (sheet .file))
+ordered (code.Copy sheet) = copy (sheet .day) (vec-items (sheet .file))
 
 -- what was read of the words, with plain lists
 abbrev pub heard : Result Command Unreadable → Result Order Unreadable
@@ -190,6 +235,11 @@ heard (Err fault) = Err fault
 abbrev pub listed : Result (Vec ℕ Global) Unreadable → Result (List ℕ) Unreadable
 listed (Ok numbers) = Ok (vec-items numbers)
 listed (Err fault) = Err fault
+
+-- a day and a file that were read, with plain lists
+abbrev pub filed : Result SheetFile Unreadable → Result DatedFile Unreadable
+filed (Ok sheet) = Ok (record { day = sheet .day; file = vec-items (sheet .file) })
+filed (Err fault) = Err fault
 
 -- what was read of a line, with plain lists
 abbrev pub said : Reading → Saying

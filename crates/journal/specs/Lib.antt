@@ -1,3 +1,4 @@
 pub mod Words
 pub mod Commands
+pub mod Faults
 pub mod Answers

@@ -2,23 +2,32 @@
 ghost use Rattle.std.specs.declared.option.Option.the-variants.{Some};
 ghost use Rattle.journal.specs.Answers.{unreadableText, answerText};
 use crate::command::Unreadable;
-use rates::surcharge::PercentageAbove100;
-use rates::surcharge::PercentageDenial;
-use rates::surcharge::PercentageDisplay;
+use crate::fault::Fault;
+use crate::fault::FaultDenial;
+use crate::fault::FaultDisplay;
 use std::fmt;
 use terms::denial::Denial;
 use terms::denial::LayerDisplay;
 use terms::denial::PlaceDisplay;
 
-/// The answer to a command.
+/// The answer to a command, in one line.
 #[derive(Clone, Copy)]
 pub enum Answer {
     Done,
     Rate(u64),
     NoRate,
-    Denied(PercentageAbove100),
+    Read(u64),
+    Denied(Fault),
     Error(Unreadable),
+    NoFile,
     NoMemory,
+}
+
+/// The answer to a command: a line, or the records of a sheet.
+#[derive(Drop)]
+pub enum Reply {
+    Line(Answer),
+    Sheet(Vec<u8>),
 }
 
 pub impl fmt::Display for Unreadable as UnreadableDisplay {
@@ -44,6 +53,7 @@ pub impl fmt::Display for Answer as AnswerDisplay {
             Answer::Done => write!(f, "ok"),
             Answer::Rate(amount) => write!(f, "rate {amount}"),
             Answer::NoRate => write!(f, "no rate"),
+            Answer::Read(count) => write!(f, "read {count}"),
             Answer::Denied(fault) => {
                 let layer = fault.layer();
                 let number = fault.number();
@@ -51,6 +61,7 @@ pub impl fmt::Display for Answer as AnswerDisplay {
                 write!(f, "denied {layer} {number}{place}: {fault}")
             }
             Answer::Error(fault) => write!(f, "error: {fault}"),
+            Answer::NoFile => write!(f, "error: the file cannot be opened"),
             Answer::NoMemory => write!(f, "error: out of memory"),
         }
     }

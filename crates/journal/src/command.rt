@@ -2,9 +2,10 @@
 ghost use mathlib.Core.Path.{_≡_};
 ghost use Prim.Native.Nat.{_<_};
 ghost use lib.ListN.{length};
+ghost use Rattle.std.specs.Options.{mapped};
 ghost use Rattle.std.specs.Vec.{made};
 ghost use Rattle.journal.specs.Words.{texts};
-ghost use Rattle.journal.specs.Commands.{spells, hasCount, numberAt, numbersFrom, faultAt, optionOf, optionAt, sourceOf, ratesBy, ratesOf, ratesScaleOf, ratesListOf, surchargeOf, rateOf, verbOf, orderBy, orderOf, isComment, reading, heard, listed, said};
+ghost use Rattle.journal.specs.Commands.{spells, hasCount, numberAt, numbersFrom, faultAt, optionOf, optionAt, sourceOf, ratesBy, ratesOf, ratesScaleOf, ratesListOf, surchargeOf, rateOf, sheetDayOf, sheetFileOf, checkOf, copyOf, verbOf, orderBy, orderOf, isComment, fileOf, reading, heard, listed, filed, said};
 use crate::words::NotNumber;
 use crate::words::number;
 use crate::words::words;
@@ -19,6 +20,9 @@ const SCALE_WORDS: usize = 2;
 /// How many words `rate ROW SECURITY call STRIKE PREMIUM CLOSE LOT` is.
 const RATE_WORDS: usize = 8;
 
+/// How many words `check DAY FILE` and `copy DAY FILE` are.
+const SHEET_WORDS: usize = 3;
+
 /// A command of the journal.
 #[derive(Drop)]
 pub enum Command {
@@ -26,6 +30,15 @@ pub enum Command {
     RatesList(Vec<u64>),
     Surcharge([u64; 16]),
     Rate(Quote),
+    Check(SheetFile),
+    Copy(SheetFile),
+}
+
+/// A file with a sheet as text, and the day that the sheet should be of.
+#[derive(Drop)]
+pub struct SheetFile {
+    pub day: u64,
+    pub file: Vec<u8>,
 }
 
 /// Why a line is no command. A word goes by its index in the line, from 0.
@@ -45,6 +58,19 @@ pub enum Reading {
     Skipped,
     Command(Command),
     Unreadable(Unreadable),
+}
+
+impl Reading {
+    /// The name of the file that a command wants to read.
+    pub fn file(&self) -> Option<&[u8]>
+        ensures { λ r. ⌜ mapped now r ≡ fileOf (said (now (self .entry))) ⌝ }
+    {
+        match self {
+            Reading::Command(Command::Check(sheet)) => Some(sheet.file.as_slice()),
+            Reading::Command(Command::Copy(sheet)) => Some(sheet.file.as_slice()),
+            _ => None,
+        }
+    }
 }
 
 /// Reads a line, without its line feed. A line with no words, or that begins with `#`, is skipped.
@@ -76,6 +102,8 @@ enum Verb {
     Rates,
     Surcharge,
     Rate,
+    Check,
+    Copy,
 }
 
 fn verb_of(word: &[u8]) -> Option<Verb>
@@ -87,6 +115,10 @@ fn verb_of(word: &[u8]) -> Option<Verb>
         Some(Verb::Surcharge)
     } else if is(word, "rate") {
         Some(Verb::Rate)
+    } else if is(word, "check") {
+        Some(Verb::Check)
+    } else if is(word, "copy") {
+        Some(Verb::Copy)
     } else {
         None
     }
@@ -113,6 +145,8 @@ fn command_by(
         Verb::Rates => rates(heap, line),
         Verb::Surcharge => Ok(surcharge(line)),
         Verb::Rate => Ok(rate(line)),
+        Verb::Check => check(heap, line),
+        Verb::Copy => copy(heap, line),
     }
 }
 
@@ -212,6 +246,46 @@ fn rate(line: &[&[u8]]) -> Result<Command, Unreadable>
         close,
         lot,
     }))
+}
+
+/// `check DAY FILE`.
+fn check(heap: Global, line: &[&[u8]]) -> Result<Result<Command, Unreadable>, AllocError>
+    ensures { λ r. ⌜ made r (λ g. heard g ≡ checkOf (texts (now (line .entry)))) ⌝ }
+{
+    match sheet_file(heap, line)? {
+        Ok(sheet) => Ok(Ok(Command::Check(sheet))),
+        Err(fault) => Ok(Err(fault)),
+    }
+}
+
+/// `copy DAY FILE`.
+fn copy(heap: Global, line: &[&[u8]]) -> Result<Result<Command, Unreadable>, AllocError>
+    ensures { λ r. ⌜ made r (λ g. heard g ≡ copyOf (texts (now (line .entry)))) ⌝ }
+{
+    match sheet_file(heap, line)? {
+        Ok(sheet) => Ok(Ok(Command::Copy(sheet))),
+        Err(fault) => Ok(Err(fault)),
+    }
+}
+
+fn sheet_file(heap: Global, line: &[&[u8]]) -> Result<Result<SheetFile, Unreadable>, AllocError>
+    ensures { λ r. ⌜ made r (λ g. filed g ≡ sheetFileOf (texts (now (line .entry)))) ⌝ }
+{
+    match sheet_day(line) {
+        Ok(day) => Ok(Ok(SheetFile {
+            day,
+            file: Vec::from_slice(heap, line[2])?,
+        })),
+        Err(fault) => Ok(Err(fault)),
+    }
+}
+
+fn sheet_day(line: &[&[u8]]) -> Result<u64, Unreadable>
+    ensures value { λ r. ⌜ r ≡ sheetDayOf (texts (now (line .entry))) ⌝ }
+    ensures long { λ r. ⌜ made r (λ _. length (now (line .entry)) ≡ 3) ⌝ }
+{
+    counted(line, SHEET_WORDS)?;
+    number_at(line, 1)
 }
 
 /// The numbers from the word of index `first` on.

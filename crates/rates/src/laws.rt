@@ -1,9 +1,7 @@
 // What follows from the definitions of the rates, whatever the figures are.
 ghost use Rattle.rates.specs.Laws.{Laws};
 
-/// How many laws stand: rounding, a call's floor, a put's floor, and two of the surcharge.
-pub fn laws_stand() -> u64
+/// Rounding, the floors of calls and puts, and two laws of the surcharge: a proof, and nothing to run.
+pub fn laws_stand()
     ensures { λ _. ⌜ Laws ⌝ }
-{
-    5
-}
+{}

@@ -7,6 +7,10 @@ use lib.Dec.{leb}
 abbrev pub within : ℕ → ℕ → ℕ → Bool
 within least most n = leb least n && leb n most
 
+-- a day: 1 to 1,000,000
+abbrev pub isDay : ℕ → Bool
+isDay day = within 1 1000000 day
+
 -- a strike, a closing price or a term price: 1 to 10,000,000 centavos
 abbrev pub isPrice : ℕ → Bool
 isPrice amount = within 1 10000000 amount
@@ -22,3 +26,7 @@ isLotSize size = within 1 10000 size
 -- the most that one lot can ask in guarantee, in centavos
 abbrev pub ceiling : ℕ
 ceiling = 1000000000000
+
+-- how many strategy lines can stand at once
+abbrev pub mostLines : ℕ
+mostLines = 64

@@ -1,0 +1,13 @@
+pub mod Columns
+pub mod Sheets
+pub mod Scans
+pub mod Writes
+pub mod Laws
+pub mod Cuts
+pub mod Sound
+pub mod Widths
+pub mod Complete
+pub mod Telling
+pub mod Places
+pub mod Readings
+pub mod Fitting

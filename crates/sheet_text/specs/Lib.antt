@@ -1,0 +1,9 @@
+pub mod Letters
+pub mod Columns
+pub mod Records
+pub mod Sheet
+pub mod Reading
+pub mod Writing
+pub mod Laws
+pub mod Told
+pub mod Faults
