@@ -22,7 +22,7 @@ use Rattle.sheet_text.specs.declared.reader.Brought.{Brought}
 use Rattle.sheet_text.specs.declared.reader.Brought.the-variants as step
 use Rattle.sheet_text.proofs.Columns.{length-column}
 use Rattle.sheet_text.proofs.Laws.{leg-back, leg-width, field-column}
-use Rattle.sheet_text.proofs.Sheets.{blank-spaces}
+use Rattle.sheet_text.proofs.Blanks.{blank-spaces}
 use Rattle.sheet_text.proofs.Cuts.{shapeText, record-back}
 use Rattle.sheet_text.proofs.Scans.{run-step, run-end}
 use Rattle.sheet_text.proofs.Sound.{line-join, count-join}

@@ -19,7 +19,7 @@ use Rattle.sheet_text.specs.declared.letters.Sort.the-variants as sort
 use Rattle.terms.specs.declared.strategy.Leg.{Leg}
 use Rattle.sheet_text.specs.declared.fields.Seen.the-variants.{Blank, Number}
 use Rattle.sheet_text.proofs.Columns.{seen-column, seen-blank, field-exact, length-column}
-use Rattle.sheet_text.proofs.Sheets.{spaces-blank}
+use Rattle.sheet_text.proofs.Blanks.{spaces-blank}
 use Rattle.sheet_text.specs.Letters.{sortLetter, sortOf}
 use Rattle.sheet_text.specs.Columns.{column, seenOf, valueOf, FieldIs, fieldOf, blank}
 use Rattle.sheet_text.specs.Sheet.{legText, LegFits}

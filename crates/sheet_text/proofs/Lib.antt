@@ -1,5 +1,5 @@
 pub mod Columns
-pub mod Sheets
+pub mod Blanks
 pub mod Scans
 pub mod Writes
 pub mod Laws

@@ -90,7 +90,8 @@ module _ (day : ℕ) (text : List ℕ) (old new : List Line) where
   accepted-from (Ok n) e h =
       let s = reads-sound day (min (length old) 64) text (take n new) (within day (length old) text (take n new) (h .0) .1) in
       let w : length (take n new) ≡ n = simp length-take (omega (arith, h .1)) in
-      (record { day-fits = within day (length old) text (take n new) (h .0) .0; lines-fit = s .1; few = omega (arith, h .1); text-is = s .0 }, w, h .2)
+      let lawful : Lawful day (length old) (take n new) text = record { day-fits = within day (length old) text (take n new) (h .0) .0; lines-fit = s .1; few = omega (arith, h .1); text-is = s .0 } in
+      record { lawful = lawful; count = w; kept = h .2 }
   accepted-from (Err f) e h = tt
 
   pub refused-from : (r : Result ℕ TextFault) → ReadIs day text old new r → Refused day text old new r
@@ -104,7 +105,7 @@ module _ (day : ℕ) (text : List ℕ) (old new : List Line) where
   )
 
   pub again-from : (r : Result ℕ TextFault) → Accepted day text old new r → Again day text new r
-  again-from (Ok n) h = (written-back day (length old) (take n new) text (h .0), sym (h .0 .text-is))
+  again-from (Ok n) h = (written-back day (length old) (take n new) text (h .lawful), sym (h .lawful .text-is))
   again-from (Err f) h = tt
 
 -- all that follows from the answer

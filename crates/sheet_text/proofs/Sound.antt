@@ -22,7 +22,7 @@ use Rattle.sheet_text.specs.declared.reader.Brought.{Brought}
 use Rattle.sheet_text.specs.declared.reader.Brought.the-variants as step
 use Rattle.sheet_text.specs.declared.fault.TextFault.{TextFault}
 use Rattle.sheet_text.proofs.Laws.{leg-sound, field-is}
-use Rattle.sheet_text.proofs.Sheets.{spaces-blank}
+use Rattle.sheet_text.proofs.Blanks.{spaces-blank}
 use Rattle.sheet_text.proofs.Cuts.{shapeText, record-sound}
 use Rattle.sheet_text.specs.Letters.{kindLetter}
 use Rattle.sheet_text.specs.Columns.{column, fieldOf, blank}

@@ -1,4 +1,4 @@
--- A fault that is told is the first that what stands at its place has, and what stands before it is lawful.
+-- What a field, a leg, a line or a count tells that is refused.
 use mathlib.Core.Path.{_≡_, refl, sym, ap, subst, _∙_}
 use mathlib.Core.Logic.{_⊎_, inl, inr, ⊎-elim}
 use mathlib.Core.List.{List}
@@ -22,7 +22,7 @@ use Rattle.sheet_text.specs.Records.{strategy, Wide}
 use Rattle.sheet_text.specs.Reading.{andThen, legFrom, legOf, lineOf, countIs}
 use Rattle.sheet_text.specs.Told.{Shows, ShowsNone, LegShown, LegIll, FirstIll}
 use Rattle.sheet_text.proofs.Laws.{field-is, field-column, leg-sound}
-use Rattle.sheet_text.proofs.Sheets.{blank-spaces, spaces-blank}
+use Rattle.sheet_text.proofs.Blanks.{blank-spaces, spaces-blank}
 
 -- fields ------------------------------------------------------------------
 

@@ -21,9 +21,15 @@ pub record Lawful (day room : ℕ) (lines : List Line) (text : List ℕ) : Type 
   pub few : length lines ≤ min room mostLines
   pub text-is : text ≡ render day lines
 
--- of an accepted text the list begins with the lines that it renders, n of them, and goes on as before
+-- the list begins with the lines that the text renders, n of them, and goes on as before
+pub record Taken (day : ℕ) (text : List ℕ) (old new : List Line) (n : ℕ) : Type 0 where
+  pub lawful : Lawful day (length old) (take n new) text
+  pub count : length (take n new) ≡ n
+  pub kept : drop n new ≡ drop n old
+
+-- an accepted text is lawful, and its lines are taken
 abbrev pub Accepted : ℕ → List ℕ → List Line → List Line → Result ℕ TextFault → Type 0
-Accepted day text old new (Ok n) = Lawful day (length old) (take n new) text × (length (take n new) ≡ n) × (drop n new ≡ drop n old)
+Accepted day text old new (Ok n) = Taken day text old new n
 Accepted day text old new (Err e) = Unit {0}
 
 -- a refused text is the rendering of no such lines, and the list stays as it was

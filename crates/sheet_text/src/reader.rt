@@ -1,7 +1,8 @@
 // Reading a text: record after record, each by what may come next.
 ghost use mathlib.Core.Path.{_≡_};
-ghost use Prim.Native.Nat.{_+_, _^_, _<_, _≤_};
+ghost use Prim.Native.Nat.{min, _+_, _^_, _<_, _≤_};
 ghost use lib.ListN.{length};
+ghost use Rattle.terms.specs.Limits.{mostLines};
 ghost use Rattle.sheet_text.specs.Columns.{blank, fieldOf};
 ghost use Rattle.sheet_text.specs.Records.{shapeOf, Wide};
 ghost use Rattle.sheet_text.specs.Reading.{legOf, lineOf, countIs, turned, stepOf, FoundRoom, reads, okLines, OkBelow, TailIs, ReadIs};
@@ -173,6 +174,13 @@ fn scan(text: &[u8], day: u64, room: usize, lines: &mut [Line]) -> Result<usize,
     }
 }
 
+/// For how many lines there is room in so many entries.
+fn room_in(entries: usize) -> usize
+    ensures { λ r. ⌜ r ≡ min entries mostLines ⌝ }
+{
+    entries.min(MAX_LINES)
+}
+
 /// Reads the text of a day's sheet into the list, and answers how many lines it has; on a denial the list stays as it was.
 pub fn read(text: &[u8], day: u64, list: &mut [Line]) -> Result<usize, TextFault>
     ensures exact { λ r. ⌜ ReadIs day (now (text .entry)) (now (list .entry)) (now (list .exit)) r ⌝ }
@@ -184,7 +192,7 @@ pub fn read(text: &[u8], day: u64, list: &mut [Line]) -> Result<usize, TextFault
     if !is_day(day) {
         return Err(TextFault::DayOutsideLimits);
     }
-    let room = list.len().min(MAX_LINES);
+    let room = room_in(list.len());
     let mut lines = [NO_LINE; MAX_LINES];
     let n = scan(text, day, room, &mut lines)?;
     list[0..n].copy_from_slice(&lines[0..n]);

@@ -1,5 +1,5 @@
 use mathlib.Core.Path.{sym, _∙_}
-use Rattle.sheet_text.proofs.Sheets.{blank-more, blank-stop, blank-all}
+use Rattle.sheet_text.proofs.Blanks.{blank-more, blank-stop, blank-all}
 use Rattle.sheet_text.proofs.fields.is_blank.Needs as need
 
 pub loop-b-again : need.loop-b-again

@@ -1,4 +1,4 @@
--- Legs, lines and records: what is read of what is written, and the other way round.
+-- Fields that hold spaces alone.
 use mathlib.Core.Path.{_≡_, refl, sym, _∙_}
 use mathlib.Core.Logic.{_⊎_, ⊎-elim}
 use mathlib.Core.List.{List, [], _∷_}
