@@ -1,4 +1,6 @@
 // One client's book: what it lists, the lots traded in each row, and the calls of its days.
+#![tactic(auto)]
+
 mod checks;
 mod days;
 mod ended;

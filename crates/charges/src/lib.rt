@@ -1,3 +1,5 @@
 // The guarantees of strategy lines.
+#![tactic(auto)]
+
 pub mod figures;
 pub mod kinds;

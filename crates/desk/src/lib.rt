@@ -1,5 +1,6 @@
 // The desk: what a journal's commands act on, and their answers.
-pub mod account;
+#![tactic(auto)]
+
 pub mod desk;
 pub mod present;
 mod sheets;

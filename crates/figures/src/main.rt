@@ -1,4 +1,6 @@
 // Compares worked figures with what the engine answers: each line of standard input has a command, " = " and its answer.
+#![tactic(auto)]
+
 mod nested;
 mod proved;
 
@@ -45,7 +47,7 @@ fn compare(heap: Global, desk: &mut Desk, line: &str) -> Result<Option<Compariso
 
 fn compare_all(rt: &HostRuntime) -> io::Result<()> {
     let heap = rt.alloc();
-    let mut desk = Desk::new(heap)?;
+    let mut desk = Desk::new(heap);
     let mut agree: u64 = 0;
     let mut differ: u64 = 0;
     for line in BufReader::new(heap, rt.stdin())?.lines(heap) {

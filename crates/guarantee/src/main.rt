@@ -1,4 +1,6 @@
 // Reads a journal from standard input and answers each of its commands on standard output.
+#![tactic(auto)]
+
 use desk::desk::Desk;
 use journal::answer::{Answer, Reply};
 use journal::command::{Reading, read};
@@ -32,7 +34,7 @@ fn show(output: &mut BufWriter<Stdout>, reply: Reply) -> io::Result<()> {
 fn play(rt: &HostRuntime) -> io::Result<()> {
     let mut input = BufReader::new(rt.alloc(), rt.stdin())?;
     let mut output = BufWriter::new(rt.alloc(), rt.stdout())?;
-    let mut desk = Desk::new(rt.alloc())?;
+    let mut desk = Desk::new(rt.alloc());
     let mut line = Vec::new(rt.alloc());
     for _ in 0..u64::MAX {
         line.clear();

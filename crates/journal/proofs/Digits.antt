@@ -1,14 +1,13 @@
 -- The digits of a word, turn by turn.
-use Rattle.std.proofs.Common.{◌≡◌, ℕ, ◌+◌, ◌-◌, ◌*◌, ◌^◌, ◌<◌, ◌≤◌, Bool, true, false, ◌&&◌, eqb, ltb, leb, List, [], ◌∷◌, length, get_or, drop, pos, Ok, Err, sym, refl, ap, ◌∙◌, ⊎_elim, arith}
+use Rattle.std.proofs.Common.{◌≡◌, ℕ, ◌+◌, ◌-◌, ◌*◌, ◌^◌, ◌<◌, ◌≤◌, Bool, true, false, ◌&&◌, List, [], ◌∷◌, length, get_or, drop, Ok, sym, refl, ap, ◌∙◌, arith}
 use native.Mathlib.Nat.{pow-le-pow_right}
 use Rattle.std.specs.Str.Parse.{digits_value, digits_value_after, AllDigits}
 use Rattle.std.specs.Char.{is_ascii_digit, digit_value}
 use Rattle.std.proofs.lemmas.Int.Digits.{digits_value-lt}
 use Rattle.std.proofs.lemmas.List.{at_drop_more, at_drop_all}
-use Rattle.std.proofs.lemmas.Bool.{and_parts, cases_Bool, cond-true, cond-false, lt-ltb, le-leb, leb-true, eqb-true}
+use Rattle.std.proofs.lemmas.Bool.{and_parts, lt-ltb, le-leb}
 use Rattle.std.proofs.lemmas.Bool.Decides.{nat_tests}
-use Rattle.journal.specs.Words.{all_digits, number_of, signed, signed_of}
-use Rattle.journal.specs.declared.words.NotNumber.TheVariants.{NotDigits, TooManyDigits}
+use Rattle.journal.specs.Words.{all_digits, number_of}
 
 -- all_digits
 pub digits_more : (w : List ℕ) (i : ℕ) → i < length w → all_digits (drop i w) ≡ (is_ascii_digit (get_or w i 0) && all_digits (drop (i + 1) w))
@@ -57,34 +56,3 @@ pub ends : {w : List ℕ} {i n : ℕ} → Part w i n → length w ≤ i → 0 < 
 ends {w} {i} {n} part h some =
     let e : n ≡ digits_value 10 w = sym (at_drop_all (digits_value_after 10 n) w i h) ∙ part.writes in
     rw (e, part.all, lt-ltb 0 (length w) some, le-leb (length w) 18 part.few) refl
-
--- signed_number: 18 digits write less than 10 ^ 18
-pub number-below : (w : List ℕ) (n : ℕ) → Ok n ≡ number_of w → n < 10 ^ 18
-number-below w n e =
-    ⊎_elim
-    (λ digits.
-    ⊎_elim
-    (λ few.
-    let is : Ok n ≡ Ok (digits_value 10 w) = e ∙ cond-true (ltb 0 (length w) && all_digits w) _ _ digits ∙ cond-true (leb (length w) 18) _ _ few in
-    let same : n ≡ digits_value 10 w = cc in
-    let below = digits_value-lt 10 w (digits_from w (and_parts (ltb 0 (length w)) (all_digits w) digits).1) in
-    let short : length w ≤ 18 = leb-true (length w) 18 few in
-    let top : 10 ^ length w ≤ 10 ^ 18 = pow-le-pow_right (omega arith) short in
-    omega arith)
-    (λ many.
-    let is : Ok n ≡ Err TooManyDigits = e ∙ cond-true (ltb 0 (length w) && all_digits w) _ _ digits ∙ cond-false (leb (length w) 18) _ _ many in
-    let z : ◌≡◌ {A = ℕ} 0 1 = cc in omega arith)
-    (cases_Bool (leb (length w) 18)))
-    (λ other.
-    let is : Ok n ≡ Err NotDigits = e ∙ cond-false (ltb 0 (length w) && all_digits w) _ _ other in
-    let z : ◌≡◌ {A = ℕ} 0 1 = cc in omega arith)
-    (cases_Bool (ltb 0 (length w) && all_digits w))
-
--- signed_number: no sign
-pub no_sign : (w : List ℕ) → ((digits : List ℕ) → w ≡ 45 ∷ digits → ⊥) → signed_of w ≡ signed pos (number_of w)
-no_sign [] other = refl
-no_sign (b ∷ w) other =
-    ⊎_elim
-    (λ minus. absurd (other w (ap (λ first. first ∷ w) (eqb-true b 45 minus))))
-    (λ (no_minus : eqb b 45 ≡ false). cond-false (eqb b 45) _ _ no_minus)
-    (cases_Bool (eqb b 45))

@@ -1,14 +1,12 @@
 -- How the answers to a journal's commands are written.
 use Rattle.std.specs.Prelude.{ℕ, List, ◌++◌, codes, decimal}
 use Rattle.terms.specs.Texts.{layer_text, place_text}
-use Rattle.terms.specs.declared.stage.Stage.{Stage}
-use Rattle.terms.specs.declared.stage.Stage.TheVariants.{Trading, Valuing}
 use Rattle.journal.specs.Faults.{fault_layer, fault_number, fault_place, fault_text}
 use Rattle.journal.specs.declared.fault.Fault.{Fault}
 use Rattle.journal.specs.declared.command.Unreadable.{Unreadable}
-use Rattle.journal.specs.declared.command.Unreadable.TheVariants.{UnknownCommand, WordCount, NoSuchRates, NotNumber, TooManyDigits, NotOptionType, NotClass}
+use Rattle.journal.specs.declared.command.Unreadable.TheVariants.{UnknownCommand, WordCount, NoSuchRates, NotNumber, TooManyDigits, NotOptionType}
 use Rattle.journal.specs.declared.answer.Answer.{Answer}
-use Rattle.journal.specs.declared.answer.Answer.TheVariants.{Done, Rate, NoRate, Read, Opened, Security, Row, Broken, NoTradingSlip, NoValuingSlip, Denied, Error, NoFile, NoMemory}
+use Rattle.journal.specs.declared.answer.Answer.TheVariants.{Done, Rate, NoRate, Read, Denied, Error, NoFile, NoMemory}
 
 -- what is wrong with the word of an index in its line, the first word being 0
 abbrev word : ℕ → List ℕ → List ℕ
@@ -21,7 +19,6 @@ unreadable_text NoSuchRates = codes "rates are scale or list"
 unreadable_text (NotNumber k) = word k (codes " is not a number")
 unreadable_text (TooManyDigits k) = word k (codes " has more than 18 digits")
 unreadable_text (NotOptionType k) = word k (codes " is neither call nor put")
-unreadable_text (NotClass k) = word k (codes " is not a class, 1 to 3")
 
 -- `denied LAYER NUMBER`, the place if there is one, and the reason
 abbrev pub denied_text : Fault → List ℕ
@@ -29,23 +26,11 @@ denied_text fault =
     codes "denied "
     ++ (layer_text (fault_layer fault) ++ (codes " " ++ (decimal (fault_number fault) ++ (place_text (fault_place fault) ++ (codes ": " ++ fault_text fault)))))
 
--- the stage of a book's day
-abbrev pub stage_text : Stage → List ℕ
-stage_text Trading = codes "trading"
-stage_text Valuing = codes "valuing"
-
--- the answer in one line
 abbrev pub answer_text : Answer → List ℕ
 answer_text Done = codes "ok"
 answer_text (Rate amount) = codes "rate " ++ decimal amount
 answer_text NoRate = codes "no rate"
 answer_text (Read count) = codes "read " ++ decimal count
-answer_text (Opened book day stage) = codes "book " ++ (decimal book ++ (codes " day " ++ (decimal day ++ (codes " " ++ stage_text stage))))
-answer_text (Security security row) = codes "security " ++ (decimal security ++ (codes " row " ++ decimal row))
-answer_text (Row row) = codes "row " ++ decimal row
-answer_text (Broken lines) = codes "broken " ++ decimal lines
-answer_text NoTradingSlip = codes "no trading slip"
-answer_text NoValuingSlip = codes "no valuing slip"
 answer_text (Denied fault) = denied_text fault
 answer_text (Error fault) = codes "error: " ++ unreadable_text fault
 answer_text NoFile = codes "error: the file cannot be opened"

@@ -1,25 +1,92 @@
 -- What a line of the journal says.
-use Rattle.std.specs.Prelude.{ℕ, ◌-◌, Bool, cond, List, [], ◌∷◌, ◌++◌, length, replicate, Some, None, Ok, Err, vec_items, codes, Option, Result, ◌==◌, nat_le, slice_index, slice_index_or}
-use Rattle.journal.specs.Words.{words_of}
-use Rattle.journal.specs.Arguments.{spells, next, chosen, number_at, numbers_from, has_count, option_at}
-use Rattle.journal.specs.Orders.{Order, rates_scale, rates_list, surcharge, rate, check, copy, order_file, ordered}
-use Rattle.journal.specs.BookCommands.{book_verb_of, book_order_by}
-use Rattle.journal.specs.declared.book_commands.BookVerb.{BookVerb}
+use Rattle.std.specs.Prelude.{ℕ, ◌+◌, ◌-◌, Bool, cond, List, [], ◌∷◌, ◌++◌, length, drop, replicate, Some, None, Ok, Err, vec_items, codes, Option, Result, Vec, ◌==◌, nat_le, slice_index, slice_index_or}
+use Rattle.std.specs.Str.{bytes_eq}
+use Rattle.std.specs.declared.alloc.Global.{Global}
+use Rattle.terms.specs.declared.OptionType.{OptionType}
+use Rattle.terms.specs.declared.OptionType.TheVariants.{Call, Put}
+use Rattle.rates.specs.declared.rate_book.Quote.{Quote}
+use Rattle.journal.specs.Words.{words_of, number_of}
+use Rattle.journal.specs.declared.words.NotNumber as words
+use Rattle.journal.specs.declared.words.NotNumber.TheVariants as not
 use Rattle.journal.specs.declared.command.Verb.{Verb}
 use Rattle.journal.specs.declared.command.Verb.TheVariants as verb
 use Rattle.journal.specs.declared.command.Source.{Source}
 use Rattle.journal.specs.declared.command.Source.TheVariants as source
+use Rattle.journal.specs.declared.command.Command.{Command}
+use Rattle.journal.specs.declared.command.Command.TheVariants as code
 use Rattle.journal.specs.declared.command.SheetFile.{SheetFile}
 use Rattle.journal.specs.declared.command.Unreadable.{Unreadable}
-use Rattle.journal.specs.declared.command.Unreadable.TheVariants.{UnknownCommand, WordCount, NoSuchRates}
+use Rattle.journal.specs.declared.command.Unreadable.TheVariants.{UnknownCommand, WordCount, NoSuchRates, NotNumber, TooManyDigits, NotOptionType}
 use Rattle.journal.specs.declared.command.Reading.{Reading}
 use Rattle.journal.specs.declared.command.Reading.TheVariants as reads
+
+-- a command, with what it lists as a plain list
+pub data Order : Type 0 where
+  rates_scale : Order
+  rates_list : List ℕ → Order
+  surcharge : List ℕ → Order
+  rate : Quote → Order
+  check : (day : ℕ) (file : List ℕ) → Order
+  copy : (day : ℕ) (file : List ℕ) → Order
 
 -- what a line says
 pub data Saying : Type 0 where
   skipped : Saying
   command : Order → Saying
   unreadable : Unreadable → Saying
+
+-- a word is a keyword
+unfoldable pub spells : List ℕ → List ℕ → Bool
+spells word keyword = bytes_eq word keyword
+
+-- what is read next, unless a fault was found
+abbrev pub next : {X Y : Type 0} → Result X Unreadable → (X → Result Y Unreadable) → Result Y Unreadable
+next (Ok x) then = then x
+next (Err fault) then = Err fault
+
+-- what a keyword goes on with, or the fault where a word is none
+abbrev pub chosen : {X Y : Type 0} → Option X → Unreadable → (X → Result Y Unreadable) → Result Y Unreadable
+chosen (Some x) fault then = then x
+chosen None fault then = Err fault
+
+-- what is wrong with a number, and where
+abbrev pub fault_at : ℕ → words.NotNumber → Unreadable
+fault_at k not.NotDigits = NotNumber k
+fault_at k not.TooManyDigits = TooManyDigits k
+
+-- a number that was read at index k
+abbrev pub placed : ℕ → Result ℕ words.NotNumber → Result ℕ Unreadable
+placed k (Ok n) = Ok n
+placed k (Err fault) = Err (fault_at k fault)
+
+-- the number at index k
+unfoldable pub number_at : List (List ℕ) → ℕ → Result ℕ Unreadable
+number_at line k = placed k (number_of (slice_index_or line k []))
+
+-- the numbers that these words write, the first of which stands at index k
+abbrev pub numbers_at : ℕ → List (List ℕ) → Result (List ℕ) Unreadable
+numbers_at k [] = Ok []
+numbers_at k (word ∷ line) =
+    next (placed k (number_of word)) (λ n.
+    next (numbers_at (k + 1) line) (λ ns. Ok (n ∷ ns)))
+
+-- the numbers from index k on
+unfoldable pub numbers_from : List (List ℕ) → ℕ → Result (List ℕ) Unreadable
+numbers_from line k = numbers_at k (drop k line)
+
+-- nothing, where the line has n words
+unfoldable pub has_count : List (List ℕ) → ℕ → Result (Unit {0}) Unreadable
+has_count line n = cond (length line == n) (Ok tt) (Err WordCount)
+
+-- the option type that a word names
+abbrev pub option_of : List ℕ → Option OptionType
+option_of word =
+    cond (spells word (codes "call")) (Some Call)
+    (cond (spells word (codes "put")) (Some Put) None)
+
+-- the option type at index k
+unfoldable pub option_at : List (List ℕ) → ℕ → Result OptionType Unreadable
+option_at line k = chosen (option_of (slice_index_or line k [])) (NotOptionType k) Ok
 
 -- `rates scale`
 abbrev pub rates_scale_of : List (List ℕ) → Result Order Unreadable
@@ -85,11 +152,6 @@ check_of line = next (sheet_file_of line) (λ sheet. Ok (check sheet.day sheet.f
 abbrev pub copy_of : List (List ℕ) → Result Order Unreadable
 copy_of line = next (sheet_file_of line) (λ sheet. Ok (copy sheet.day sheet.file))
 
--- a command on a book, among all commands
-abbrev pub book_verb : Option BookVerb → Option Verb
-book_verb (Some given) = Some (verb.Book given)
-book_verb None = None
-
 -- the command that a word begins
 abbrev pub verb_of : List ℕ → Option Verb
 verb_of word =
@@ -97,8 +159,7 @@ verb_of word =
     (cond (spells word (codes "surcharge")) (Some verb.Surcharge)
     (cond (spells word (codes "rate")) (Some verb.Rate)
     (cond (spells word (codes "check")) (Some verb.Check)
-    (cond (spells word (codes "copy")) (Some verb.Copy)
-    (book_verb (book_verb_of word))))))
+    (cond (spells word (codes "copy")) (Some verb.Copy) None))))
 
 -- the rest of a command, by its first word
 abbrev pub order_by : Verb → List (List ℕ) → Result Order Unreadable
@@ -107,7 +168,6 @@ order_by verb.Surcharge line = surcharge_of line
 order_by verb.Rate line = rate_of line
 order_by verb.Check line = check_of line
 order_by verb.Copy line = copy_of line
-order_by (verb.Book given) line = book_order_by given line
 
 -- the command that the words of a line give
 unfoldable pub order_of : List (List ℕ) → Result Order Unreadable
@@ -131,11 +191,39 @@ is_comment line = slice_index line 0 == 35
 abbrev pub reading : List ℕ → Saying
 reading line = cond (is_comment line) skipped (saying_of (words_of line))
 
+-- the file that a command wants to read
+abbrev pub order_file : Order → Option (List ℕ)
+order_file rates_scale = None
+order_file (rates_list amounts) = None
+order_file (surcharge percentages) = None
+order_file (rate quote) = None
+order_file (check day file) = Some file
+order_file (copy day file) = Some file
+
 -- the file that a line names
 abbrev pub file_of : Saying → Option (List ℕ)
 file_of skipped = None
 file_of (command order) = order_file order
 file_of (unreadable fault) = None
+
+-- a command that was read, with plain lists
+abbrev pub ordered : Command → Order
+ordered code.RatesScale = rates_scale
+ordered (code.RatesList amounts) = rates_list (vec_items amounts)
+ordered (code.Surcharge percentages) = surcharge percentages
+ordered (code.Rate quote) = rate quote
+ordered (code.Check sheet) = check sheet.day (vec_items sheet.file)
+ordered (code.Copy sheet) = copy sheet.day (vec_items sheet.file)
+
+-- what was read of the words, with plain lists
+abbrev pub heard : Result Command Unreadable → Result Order Unreadable
+heard (Ok given) = Ok (ordered given)
+heard (Err fault) = Err fault
+
+-- numbers that were read, as a plain list
+abbrev pub listed : Result (Vec ℕ Global) Unreadable → Result (List ℕ) Unreadable
+listed (Ok numbers) = Ok (vec_items numbers)
+listed (Err fault) = Err fault
 
 -- a day and a file that were read, with plain lists
 abbrev pub filed : Result SheetFile Unreadable → Result DatedFile Unreadable

@@ -1,5 +1,5 @@
 -- The words of a line, and the number that a word writes.
-use Rattle.std.specs.Prelude.{◌≡◌, ℕ, suc, ◌-◌, Bool, true, cond, ◌&&◌, ltb, List, [], ◌∷◌, map, length, take, ℤ, pos, neg_ℤ, Ok, Err, filter, Result, ◌==◌, nat_le, nat_lt, slice_index}
+use Rattle.std.specs.Prelude.{◌≡◌, ℕ, suc, ◌-◌, Bool, true, cond, ◌&&◌, ltb, List, [], ◌∷◌, map, length, take, Ok, Err, filter, Result, ◌==◌, nat_le, nat_lt, slice_index}
 use Rattle.std.specs.Borrow.{Bor}
 use Rattle.std.specs.Str.Iter.{LacksByte}
 use Rattle.std.specs.List.{join_with_byte, AllByRecursion as All}
@@ -53,13 +53,3 @@ number_of word =
     cond (nat_lt 0 (length word) && all_digits word)
     (cond (nat_le (length word) 18) (Ok (digits_value 10 word)) (Err TooManyDigits))
     (Err NotDigits)
-
--- what is made of a number, unless a word writes none
-abbrev pub signed : (ℕ → ℤ) → Result ℕ NotNumber → Result ℤ NotNumber
-signed sign (Ok n) = Ok (sign n)
-signed sign (Err fault) = Err fault
-
--- the number that a word writes, below 0 where a `-` stands before its digits
-abbrev pub signed_of : List ℕ → Result ℤ NotNumber
-signed_of [] = Err NotDigits
-signed_of (b ∷ word) = cond (b == 45) (signed (λ n. neg_ℤ (pos n)) (number_of word)) (signed pos (number_of (b ∷ word)))

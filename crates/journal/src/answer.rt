@@ -6,7 +6,6 @@ use crate::command::Unreadable;
 use crate::fault::Fault;
 use std::fmt;
 use terms::denial::Denial;
-use terms::stage::Stage;
 
 /// The answer to a command, in one line.
 #[derive(Clone, Copy)]
@@ -15,12 +14,6 @@ pub enum Answer {
     Rate(u64),
     NoRate,
     Read(u64),
-    Opened { book: u64, day: u64, stage: Stage },
-    Security { security: u64, row: u64 },
-    Row { row: u64 },
-    Broken { lines: u64 },
-    NoTradingSlip,
-    NoValuingSlip,
     Denied(Fault),
     Error(Unreadable),
     NoFile,
@@ -45,7 +38,6 @@ impl fmt::Display for Unreadable {
             Unreadable::NotNumber { word } => write!(f, "word {word} is not a number"),
             Unreadable::TooManyDigits { word } => write!(f, "word {word} has more than 18 digits"),
             Unreadable::NotOptionType { word } => write!(f, "word {word} is neither call nor put"),
-            Unreadable::NotClass { word } => write!(f, "word {word} is not a class, 1 to 3"),
         }
     }
 }
@@ -59,15 +51,6 @@ impl fmt::Display for Answer {
             Answer::Rate(amount) => write!(f, "rate {amount}"),
             Answer::NoRate => write!(f, "no rate"),
             Answer::Read(count) => write!(f, "read {count}"),
-            Answer::Opened { book, day, stage } => match stage {
-                Stage::Trading => write!(f, "book {book} day {day} trading"),
-                Stage::Valuing => write!(f, "book {book} day {day} valuing"),
-            },
-            Answer::Security { security, row } => write!(f, "security {security} row {row}"),
-            Answer::Row { row } => write!(f, "row {row}"),
-            Answer::Broken { lines } => write!(f, "broken {lines}"),
-            Answer::NoTradingSlip => write!(f, "no trading slip"),
-            Answer::NoValuingSlip => write!(f, "no valuing slip"),
             Answer::Denied(fault) => {
                 let layer = fault.layer();
                 let number = fault.number();

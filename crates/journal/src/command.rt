@@ -2,16 +2,12 @@
 ghost use Rattle.std.specs.Prelude.{◌≡◌, ◌<◌, length, IfOk, OnOk};
 ghost use Rattle.std.specs.Option.{option_map};
 ghost use Rattle.journal.specs.Words.{texts};
-ghost use Rattle.journal.specs.Orders.{heard};
-ghost use Rattle.journal.specs.Commands.{source_of, rates_by, rates_of, rates_scale_of, rates_list_of, surcharge_of, rate_of, sheet_day_of, sheet_file_of, check_of, copy_of, verb_of, order_by, order_of, is_comment, file_of, reading, filed, said};
+ghost use Rattle.journal.specs.Commands.{spells, has_count, number_at, numbers_from, fault_at, option_of, option_at, source_of, rates_by, rates_of, rates_scale_of, rates_list_of, surcharge_of, rate_of, sheet_day_of, sheet_file_of, check_of, copy_of, verb_of, order_by, order_of, is_comment, file_of, reading, heard, listed, filed, said};
 
-use crate::arguments::{counted, is, number_at, numbers_from, option_at};
-use crate::book_commands::{BookVerb, book_command_by, book_verb_of};
-use crate::words::words;
+use crate::words::{NotNumber, number, words};
 use rates::rate_book::Quote;
 use std::alloc::{AllocError, Global};
 use terms::OptionType;
-use terms::holdings::Class;
 
 /// How many words `rates scale` is.
 const SCALE_WORDS: usize = 2;
@@ -31,44 +27,6 @@ pub enum Command {
     Rate(Quote),
     Check(SheetFile),
     Copy(SheetFile),
-    Open {
-        book: u64,
-        day: u64,
-    },
-    Security {
-        class: Class,
-        lot_size: u64,
-        close: u64,
-    },
-    Series {
-        security: u64,
-        option: OptionType,
-        strike: u64,
-        last_day: u64,
-        premium: u64,
-    },
-    Term {
-        security: u64,
-        price: u64,
-        last_day: u64,
-        guarantee: u64,
-    },
-    Price {
-        security: u64,
-        price: u64,
-    },
-    Premium {
-        row: u64,
-        premium: u64,
-    },
-    Trade {
-        row: u64,
-        lots: i64,
-    },
-    End,
-    Next {
-        day: u64,
-    },
 }
 
 /// A file with a sheet as text, and the day that the sheet should be of.
@@ -87,7 +45,6 @@ pub enum Unreadable {
     NotNumber { word: usize },
     TooManyDigits { word: usize },
     NotOptionType { word: usize },
-    NotClass { word: usize },
 }
 
 /// What a line says.
@@ -142,7 +99,6 @@ enum Verb {
     Rate,
     Check,
     Copy,
-    Book(BookVerb),
 }
 
 fn verb_of(word: &[u8]) -> Option<Verb>
@@ -159,10 +115,7 @@ fn verb_of(word: &[u8]) -> Option<Verb>
     } else if is(word, "copy") {
         Some(Verb::Copy)
     } else {
-        match book_verb_of(word) {
-            Some(verb) => Some(Verb::Book(verb)),
-            None => None,
-        }
+        None
     }
 }
 
@@ -189,7 +142,6 @@ fn command_by(
         Verb::Rate => Ok(rate(line)),
         Verb::Check => check(heap, line),
         Verb::Copy => copy(heap, line),
-        Verb::Book(verb) => Ok(book_command_by(verb, line)),
     }
 }
 
@@ -329,4 +281,80 @@ fn sheet_day(line: &[&[u8]]) -> Result<u64, Unreadable>
 {
     counted(line, SHEET_WORDS)?;
     number_at(line, 1)
+}
+
+/// The numbers from the word of index `first` on.
+fn numbers_from(
+    heap: Global,
+    line: &[&[u8]],
+    first: usize,
+) -> Result<Result<Vec<u64>, Unreadable>, AllocError>
+    ensures { IfOk result (λ g. listed g ≡ numbers_from (texts line.now) first) }
+{
+    let mut numbers = Vec::new(heap);
+    for k in first..line.len() {
+        match number_at(line, k) {
+            Ok(n) => numbers.push(n)?,
+            Err(fault) => return Ok(Err(fault)),
+        }
+    }
+    Ok(Ok(numbers))
+}
+
+fn counted(line: &[&[u8]], count: usize) -> Result<(), Unreadable>
+    ensures value { result ≡ has_count (texts line.now) count }
+    ensures long { OnOk result (length line.now ≡ count) }
+{
+    if line.len() == count {
+        Ok(())
+    } else {
+        Err(Unreadable::WordCount)
+    }
+}
+
+fn number_at(line: &[&[u8]], word: usize) -> Result<u64, Unreadable>
+    requires { word < length line.now }
+    ensures { result ≡ number_at (texts line.now) word }
+{
+    match number(line[word]) {
+        Ok(n) => Ok(n),
+        Err(fault) => Err(fault_at(word, fault)),
+    }
+}
+
+fn fault_at(word: usize, fault: NotNumber) -> Unreadable
+    ensures { result ≡ fault_at word fault }
+{
+    match fault {
+        NotNumber::NotDigits => Unreadable::NotNumber { word },
+        NotNumber::TooManyDigits => Unreadable::TooManyDigits { word },
+    }
+}
+
+fn option_at(line: &[&[u8]], word: usize) -> Result<OptionType, Unreadable>
+    requires { word < length line.now }
+    ensures { result ≡ option_at (texts line.now) word }
+{
+    match option_of(line[word]) {
+        Some(option) => Ok(option),
+        None => Err(Unreadable::NotOptionType { word }),
+    }
+}
+
+fn option_of(word: &[u8]) -> Option<OptionType>
+    ensures { result ≡ option_of word.now }
+{
+    if is(word, "call") {
+        Some(OptionType::Call)
+    } else if is(word, "put") {
+        Some(OptionType::Put)
+    } else {
+        None
+    }
+}
+
+fn is(word: &[u8], keyword: &str) -> bool
+    ensures { result ≡ spells word.now keyword.now }
+{
+    word == keyword.as_bytes()
 }

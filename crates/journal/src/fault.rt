@@ -2,7 +2,6 @@
 ghost use Rattle.std.specs.Prelude.{Some};
 ghost use Rattle.journal.specs.Faults.{fault_layer, fault_number, fault_place, fault_text};
 
-use denials::book::BookFault;
 use rates::surcharge::PercentageAbove100;
 use sheet_text::fault::TextFault;
 use std::fmt;
@@ -13,7 +12,6 @@ use terms::denial::{Denial, Layer, Place};
 pub enum Fault {
     Surcharge(PercentageAbove100),
     Text(TextFault),
-    Book(BookFault),
 }
 
 impl Denial for Fault {
@@ -27,7 +25,6 @@ impl Denial for Fault {
         match self {
             Fault::Surcharge(fault) => fault.layer(),
             Fault::Text(fault) => fault.layer(),
-            Fault::Book(fault) => fault.layer(),
         }
     }
 
@@ -35,7 +32,6 @@ impl Denial for Fault {
         match self {
             Fault::Surcharge(fault) => fault.number(),
             Fault::Text(fault) => fault.number(),
-            Fault::Book(fault) => fault.number(),
         }
     }
 
@@ -43,7 +39,6 @@ impl Denial for Fault {
         match self {
             Fault::Surcharge(fault) => fault.place(),
             Fault::Text(fault) => fault.place(),
-            Fault::Book(fault) => fault.place(),
         }
     }
 }
@@ -55,7 +50,6 @@ impl fmt::Display for Fault {
         match self {
             Fault::Surcharge(fault) => write!(f, "{fault}"),
             Fault::Text(fault) => write!(f, "{fault}"),
-            Fault::Book(fault) => write!(f, "{fault}"),
         }
     }
 }

@@ -1,6 +1,6 @@
 // The words of a line, and the number that a word writes.
 ghost use Rattle.std.specs.Prelude.{◌≡◌, IfOk};
-ghost use Rattle.journal.specs.Words.{without_line_feed, words_of, Cuts, to_space, texts, all_digits, number_of, signed_of};
+ghost use Rattle.journal.specs.Words.{without_line_feed, words_of, Cuts, to_space, texts, all_digits, number_of};
 
 use std::alloc::{AllocError, Global};
 
@@ -75,16 +75,6 @@ pub fn number(word: &[u8]) -> Result<u64, NotNumber>
         n = n * 10 + u64::from(*digit - b'0');
     }
     Ok(n)
-}
-
-/// The number that a word writes, below 0 where a `-` stands before its digits.
-pub fn signed_number(word: &[u8]) -> Result<i64, NotNumber>
-    ensures { result ≡ signed_of word.now }
-{
-    match word.strip_prefix(b"-") {
-        Some(digits) => Ok(-(number(digits)? as i64)),
-        None => Ok(number(word)? as i64),
-    }
 }
 
 fn all_digits(word: &[u8]) -> bool

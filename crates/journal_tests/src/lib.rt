@@ -1,3 +1,5 @@
 // Tests of the journal crate, apart from it, since a crate with tests is proved twice.
+#![tactic(auto)]
+
 #[cfg(test)]
 mod tests;

@@ -25,20 +25,6 @@ fn tells_the_fault(rt: HostRuntime) -> Result<(), Fail> {
         ),
         ("rate 1 2 Call 3 4 5 6", "word 3 is neither call nor put"),
         ("rate 1 2 call 3 4 5", "wrong count of words"),
-        ("open 7", "wrong count of words"),
-        ("security 4 100 2500", "word 1 is not a class, 1 to 3"),
-        ("security B 100 2500", "word 1 is not a number"),
-        ("series 0 Call 3 4 5", "word 2 is neither call nor put"),
-        ("trade 0 +5", "word 2 is not a number"),
-        ("trade 0 --5", "word 2 is not a number"),
-        ("trade 0 -", "word 2 is not a number"),
-        ("trade -1 5", "word 1 is not a number"),
-        (
-            "trade 0 -1234567890123456789",
-            "word 2 has more than 18 digits",
-        ),
-        ("end 2", "wrong count of words"),
-        ("next", "wrong count of words"),
     ];
     for (line, text) in lines {
         let Reading::Unreadable(fault) = read(rt.alloc(), line.as_bytes())? else {
@@ -46,54 +32,6 @@ fn tells_the_fault(rt: HostRuntime) -> Result<(), Fail> {
         };
         assert_eq!(rt; fault.to_string(rt.alloc())?.as_str(), text, "{}", line);
     }
-    Ok(())
-}
-
-#[test]
-fn reads_lots_with_their_sign(rt: HostRuntime) -> Result<(), Fail> {
-    let lines = [
-        ("trade 3 25", 25),
-        ("trade 3 -25", -25),
-        ("trade 3 -0", 0),
-        ("trade 3 -999999999999999999", -999_999_999_999_999_999),
-    ];
-    for (line, expected) in lines {
-        let Reading::Command(Command::Trade { row, lots }) = read(rt.alloc(), line.as_bytes())?
-        else {
-            return Err(Fail::new("no trade"));
-        };
-        assert_eq!(rt; (row, lots), (3, expected), "{}", line);
-    }
-    Ok(())
-}
-
-#[test]
-fn reads_commands_on_a_book(rt: HostRuntime) -> Result<(), Fail> {
-    let Reading::Command(
-        Command::Security {
-            class: _,
-            lot_size,
-            close,
-        },
-    ) = read(rt.alloc(), b"security 3 100 2500")?
-    else {
-        return Err(Fail::new("no security"));
-    };
-    assert_eq!(rt; (lot_size, close), (100, 2500));
-    let Reading::Command(
-        Command::Series {
-            security,
-            option: _,
-            strike,
-            last_day,
-            premium,
-        },
-    ) = read(rt.alloc(), b"series 1 put 2600 40 15")?
-    else {
-        return Err(Fail::new("no series"));
-    };
-    assert_eq!(rt; (security, strike, last_day, premium), (1, 2600, 40, 15));
-    assert!(rt; matches!(read(rt.alloc(), b"end")?, Reading::Command(Command::End)));
     Ok(())
 }
 

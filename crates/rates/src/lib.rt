@@ -1,4 +1,6 @@
 // Rate books: the guarantee that one uncovered written lot asks for.
+#![tactic(auto)]
+
 mod bands;
 mod entries;
 pub mod laws;

@@ -1,4 +1,6 @@
 // What makes a strategy line lawful.
+#![tactic(auto)]
+
 ghost use Rattle.std.specs.Prelude.{◌≡◌};
 ghost use Rattle.rules.specs.Rules.{unless, rules_checked, line_checked, sheet_checked};
 ghost use Rattle.rules.specs.Lawful.{PassesLawful, PassesAllLawful};

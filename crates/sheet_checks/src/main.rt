@@ -1,4 +1,6 @@
 // Damages texts of sheets in every place, cuts them to every length, and shows what the reader answers.
+#![tactic(auto)]
+
 mod limits;
 
 use limits::show_limits;

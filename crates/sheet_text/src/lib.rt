@@ -4,6 +4,8 @@
 // leading zeros. First comes the head: `H`, the day in 8 columns, 28 spaces. Then come the strategies: the letter of the
 // kind and four legs, each a row in 3 columns and lots from 1 in 6, or nine spaces where the leg is unused. Last comes the
 // trailer: `T`, the number of strategies in 8 columns, 28 spaces.
+#![tactic(auto)]
+
 pub mod fault;
 mod fields;
 mod letters;

@@ -1,4 +1,6 @@
 // What a book is made of, in the words of the options market, and the limits of its figures.
+#![tactic(auto)]
+
 pub mod denial;
 pub mod holdings;
 pub mod limits;

@@ -1,8 +1,7 @@
 use Rattle.std.proofs.Common.{◌≡◌, sym, ap, ◌∙◌}
 use Rattle.journal.specs.declared.command.Unreadable.TheVariants.{UnknownCommand}
 use Rattle.journal.specs.Words.{texts}
-use Rattle.journal.specs.Arguments.{chosen}
-use Rattle.journal.specs.Commands.{verb_of, order_by, order_of}
+use Rattle.journal.specs.Commands.{chosen, verb_of, order_by, order_of}
 use Rattle.journal.proofs.Lines.{word_at}
 use Rattle.journal.proofs.command.command_of.Goals as goal
 

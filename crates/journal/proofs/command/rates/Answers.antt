@@ -2,8 +2,7 @@ use Rattle.std.proofs.Common.{◌≡◌, ◌≤◌, length, sym, ap, ◌∙◌, 
 use Rattle.std.proofs.lemmas.List.{get_or_past}
 use Rattle.journal.specs.declared.command.Unreadable.TheVariants.{NoSuchRates}
 use Rattle.journal.specs.Words.{texts}
-use Rattle.journal.specs.Arguments.{spells, chosen}
-use Rattle.journal.specs.Commands.{source_of, rates_by, rates_of}
+use Rattle.journal.specs.Commands.{spells, chosen, source_of, rates_by, rates_of}
 use Rattle.journal.proofs.Lines.{length-texts, word_at}
 use Rattle.journal.proofs.command.rates.Goals as goal
 

@@ -1,8 +1,7 @@
 use Rattle.std.proofs.Common.{◌≡◌, ◌<◌, length, vec_items, sym, ap, ◌∙◌, arith}
 use Rattle.std.proofs.lemmas.Bool.{eqb-true, eqb-false}
 use Rattle.journal.specs.Words.{texts}
-use Rattle.journal.specs.Orders.{heard}
-use Rattle.journal.specs.Commands.{saying, reading}
+use Rattle.journal.specs.Commands.{saying, heard, reading}
 use Rattle.journal.proofs.Lines.{saying-empty, saying-is}
 use Rattle.journal.proofs.command.read.Goals as goal
 use Rattle.journal.proofs.command.read.Goals.{In-ok-command}

@@ -1,8 +1,7 @@
 use Rattle.std.proofs.Common.{◌≡◌, ℕ, ◌<◌, List, [], length, get_or, Ok, Result, sym, ap, ◌∙◌, arith}
 use Rattle.journal.specs.declared.command.Unreadable.{Unreadable}
 use Rattle.journal.specs.Words.{texts}
-use Rattle.journal.specs.Arguments.{next}
-use Rattle.journal.specs.Commands.{DatedFile, sheet_file_of}
+use Rattle.journal.specs.Commands.{DatedFile, next, sheet_file_of}
 use Rattle.journal.proofs.Lines.{word_at}
 use Rattle.journal.proofs.command.sheet_file.Goals as goal
 

@@ -1,6 +1,6 @@
-use Rattle.std.proofs.Common.{refl, ap, ◌∙◌}
+use Rattle.std.proofs.Common.{ap, ◌∙◌}
 use Rattle.desk.specs.Answers.{rate_answer}
 use Rattle.desk.proofs.desk.Desk.rate.Goals as goal
 
 pub returns : goal.returns
-returns c = record { told = c.rate-answer.ensures ∙ ap rate_answer c.rate.ensures.answer; kept = c.rate.ensures.kept; account = refl }
+returns c = record { told = c.rate-answer.ensures ∙ ap rate_answer c.rate.ensures.answer; kept = c.rate.ensures.kept }

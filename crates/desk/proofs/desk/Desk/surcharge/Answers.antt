@@ -6,4 +6,4 @@ pub returns-in-Err : goal.returns-in-Err
 returns-in-Err c =
     let denied = c.in-Err.ensures in
     rw (unfair c.args.each _ denied.first)
-    (record { table = record { why = c.in-Err.fault; told = refl; denied = denied; kept = refl }; account = refl })
+    (record { why = c.in-Err.fault; told = refl; denied = denied; kept = refl })
