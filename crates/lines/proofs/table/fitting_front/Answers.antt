@@ -9,8 +9,8 @@ returns-then-not-fit c =
     let lines = c.args.lines.now in
     let i = c.loop-i.i in
     let same = to_z-of_z w32 c.args.net c.ranges.net in
-    let h = sum_more (holds c.args.row) lines i blank _ _ c.loop-i-test.true c.loop-i.invariant.0 c.lots-in-lots.ensures.held in
-    let w = sum_more (writes c.args.row) lines i blank _ _ c.loop-i-test.true c.loop-i.invariant.1 c.lots-in-lots.ensures.written in
+    let h = sum_more (holds c.args.row) lines i blank _ _ c.loop-i-test.true c.loop-i.invariant.0 c.lots_in-lots.ensures.held in
+    let w = sum_more (writes c.args.row) lines i blank _ _ c.loop-i-test.true c.loop-i.invariant.1 c.lots_in-lots.ensures.written in
     record {
       within = omega arith;
       fits = ap (λ z. fitting c.args.row z (take i lines)) (sym same) ∙ c.loop-i.invariant.2;
@@ -22,6 +22,6 @@ pub loop-i-preserved : goal.loop-i-preserved
 loop-i-preserved c =
     let lines = c.args.lines.now in
     let i = c.loop-i.i in
-    let h = sum_more (holds c.args.row) lines i blank _ _ c.loop-i-test.true c.loop-i.invariant.0 c.lots-in-lots.ensures.held in
-    let w = sum_more (writes c.args.row) lines i blank _ _ c.loop-i-test.true c.loop-i.invariant.1 c.lots-in-lots.ensures.written in
+    let h = sum_more (holds c.args.row) lines i blank _ _ c.loop-i-test.true c.loop-i.invariant.0 c.lots_in-lots.ensures.held in
+    let w = sum_more (writes c.args.row) lines i blank _ _ c.loop-i-test.true c.loop-i.invariant.1 c.lots_in-lots.ensures.written in
     (h, w, fitting-is c.args.row (to_z w32 (of_z w32 c.args.net)) (take (i + 1) lines) _ _ true h w c.if-not-fit.ensures, omega arith, omega arith)

@@ -17,8 +17,8 @@ returns-in-Number c =
     let v : ◌≡◌ {A = Option ℕ} (Some c.in-Number.n) (value_of (seen_of c.args.field.now)) = ap value_of (sym c.in-Number.is ∙ e) in
     record { value = v; exact = field_told c.args.field.now (Some c.in-Number.n) c.requires.0 v }
 
-pub returns-in-default : goal.returns-in-default
-returns-in-default c =
+pub returns-in_default : goal.returns-in_default
+returns-in_default c =
     let e = seen_all c.args.field.now c.loop-b.b-index c.loop-b.seen c.loop-b.invariant c.loop-b-test.false in
-    let v : ◌≡◌ {A = Option ℕ} None (value_of (seen_of c.args.field.now)) = none_from c.loop-b.seen c.in-default.not-Number ∙ ap value_of e in
+    let v : ◌≡◌ {A = Option ℕ} None (value_of (seen_of c.args.field.now)) = none_from c.loop-b.seen c.in_default.not-Number ∙ ap value_of e in
     record { value = v; exact = field_told c.args.field.now None c.requires.0 v }

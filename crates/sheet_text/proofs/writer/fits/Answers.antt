@@ -22,8 +22,8 @@ loop-i-preserved c =
     let d : Line = record { kind = Opposed; legs = [] } in
     let l : Line = get_or c.args.lines.now c.loop-i.i d in
     let l4 : length (get_or c.args.lines.now c.loop-i.i (record { kind = Opposed; legs = [] })).legs ≡ 4 = search rules in (
-      sym (fit_none c.args.lines.now c.loop-i.i d c.loop-i-test.true c.in-default.ensures) ∙ c.loop-i.invariant.0,
-      All-more LineFits c.args.lines.now c.loop-i.i d c.loop-i-test.true c.loop-i.invariant.1 (line-fits l l4 c.in-default.ensures),
+      sym (fit_none c.args.lines.now c.loop-i.i d c.loop-i-test.true c.in_default.ensures) ∙ c.loop-i.invariant.0,
+      All-more LineFits c.args.lines.now c.loop-i.i d c.loop-i-test.true c.loop-i.invariant.1 (line-fits l l4 c.in_default.ensures),
     )
 
 pub returns : goal.returns

@@ -16,10 +16,10 @@ loop-line-init c =
 
 pub loop-line-preserved : goal.loop-line-preserved
 loop-line-preserved c = (
-  (λ r lt. c.add-line.ensures.held r lt ∙ sum_more (holds r) c.args.lines.now c.loop-line.line-index blank _ _ c.loop-line-test.true (c.loop-line.invariant.0 r lt) refl),
-  (λ r lt. c.add-line.ensures.written r lt ∙ sum_more (writes r) c.args.lines.now c.loop-line.line-index blank _ _ c.loop-line-test.true (c.loop-line.invariant.1 r lt) refl),
-  (λ r. omega (arith, c.add-line.ensures.grows.0 r, c.loop-line.invariant.2 r)),
-  (λ r. omega (arith, c.add-line.ensures.grows.1 r, c.loop-line.invariant.3 r)),
+  (λ r lt. c.add_line.ensures.held r lt ∙ sum_more (holds r) c.args.lines.now c.loop-line.line-index blank _ _ c.loop-line-test.true (c.loop-line.invariant.0 r lt) refl),
+  (λ r lt. c.add_line.ensures.written r lt ∙ sum_more (writes r) c.args.lines.now c.loop-line.line-index blank _ _ c.loop-line-test.true (c.loop-line.invariant.1 r lt) refl),
+  (λ r. omega (arith, c.add_line.ensures.grows.0 r, c.loop-line.invariant.2 r)),
+  (λ r. omega (arith, c.add_line.ensures.grows.1 r, c.loop-line.invariant.3 r)),
 )
 
 pub returns : goal.returns
