@@ -6,7 +6,7 @@ pub returns-then-w-eq0 : goal.returns-then-w-eq0
 returns-then-w-eq0 t c = put-none c.args.out.now c.args.n c.if-w-eq0.true
 
 pub returns-then-n-lt10 : goal.returns-then-n-lt10
-returns-then-n-lt10 t c = put_small c.args.out.now c.fill.new.self c.args.n c.last-digit.result c.last-digit.ensures (omega arith) (omega arith) (c.fill.ensures.after (λ y e. search rules))
+returns-then-n-lt10 t c = put_small c.args.out.now c.fill.new.self c.args.n c.last_digit.result c.last_digit.ensures (omega arith) (omega arith) (c.fill.ensures.after (λ y e. search rules))
 
 pub returns-else-n-lt10 : goal.returns-else-n-lt10
-returns-else-n-lt10 t c = put-big c.args.out.now c.put-field.new.out c.args.n c.last-digit.result c.last-digit.ensures (omega arith) (omega arith) c.put-field.ensures
+returns-else-n-lt10 t c = put-big c.args.out.now c.put_field.new.out c.args.n c.last_digit.result c.last_digit.ensures (omega arith) (omega arith) c.put_field.ensures
