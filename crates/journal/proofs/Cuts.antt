@@ -1,7 +1,7 @@
 -- Where a line is cut into words.
 use Rattle.std.proofs.Common.{◌≡◌, ℕ, zero, suc, ◌+◌, ◌<◌, ◌≤◌, Bool, true, false, cond, eqb, ltb, List, [], ◌∷◌, ◌++◌, length, get_or, take, drop, filter, sym, refl, ap, ◌∙◌, ⊎_elim, append_assoc, arith, Bor}
 use Rattle.std.specs.Str.Iter.{LacksByte}
-use Rattle.std.specs.List.{join_with_byte, AllByRecursion as All}
+use Rattle.std.specs.List.{join_with_byte, AllByRecursion}
 use Rattle.std.proofs.lemmas.List.{at_drop_more, at_drop_all, map_push, length-take-le}
 use Rattle.std.proofs.lemmas.Bool.{cases_Bool, cond-true, cond-false, lt-ltb, eqb-true, eqb-false}
 use Rattle.journal.specs.Words.{pieces, before, words_of, Cuts, to_space, texts}
@@ -59,11 +59,11 @@ lacks-more : (b : ℕ) (part : List ℕ) → (b ≡ 32 → ⊥) → LacksByte 32
 lacks-more b part other lacks zero h e = other e
 lacks-more b part other lacks (suc k) h e = lacks k (omega arith) e
 
-apart-before : (b : ℕ) (parts : List (List ℕ)) → (b ≡ 32 → ⊥) → All (λ part. LacksByte 32 part) parts → All (λ part. LacksByte 32 part) (before b parts)
+apart-before : (b : ℕ) (parts : List (List ℕ)) → (b ≡ 32 → ⊥) → AllByRecursion (λ part. LacksByte 32 part) parts → AllByRecursion (λ part. LacksByte 32 part) (before b parts)
 apart-before b [] other apart = (lacks-more b [] other (λ k h. absurd (omega arith)), tt)
 apart-before b (part ∷ parts) other apart = (lacks-more b part other apart.0, apart.1)
 
-apart : (line : List ℕ) → All (λ part. LacksByte 32 part) (pieces line)
+apart : (line : List ℕ) → AllByRecursion (λ part. LacksByte 32 part) (pieces line)
 apart [] = (λ k h. absurd (omega arith), tt)
 apart (b ∷ line) =
     ⊎_elim

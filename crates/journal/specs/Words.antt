@@ -2,7 +2,7 @@
 use Rattle.std.specs.Prelude.{◌≡◌, ℕ, suc, ◌-◌, Bool, true, cond, ◌&&◌, ltb, List, [], ◌∷◌, map, length, take, Ok, Err, filter, Result, ◌==◌, nat_le, nat_lt, slice_index}
 use Rattle.std.specs.Borrow.{Bor}
 use Rattle.std.specs.Str.Iter.{LacksByte}
-use Rattle.std.specs.List.{join_with_byte, AllByRecursion as All}
+use Rattle.std.specs.List.{join_with_byte, AllByRecursion}
 use Rattle.std.specs.Str.Parse.{digits_value}
 use Rattle.std.specs.Char.{is_ascii_digit}
 use Rattle.journal.specs.declared.words.NotNumber.{NotNumber}
@@ -30,7 +30,7 @@ words_of line = filter (λ piece. ltb 0 (length piece)) (pieces line)
 pub record Cuts (words : List (List ℕ)) (line : List ℕ) : Type 0 where
   pub parts : List (List ℕ)
   pub whole : join_with_byte 32 parts ≡ line
-  pub apart : All (λ part. LacksByte 32 part) parts
+  pub apart : AllByRecursion (λ part. LacksByte 32 part) parts
   pub kept : words ≡ filter (λ part. ltb 0 (length part)) parts
 
 -- how many bytes stand before the first space

@@ -353,6 +353,7 @@ fn option_of(word: &[u8]) -> Option<OptionType>
     }
 }
 
+#[tactic(auto, unfolding(crate::specs::Commands::spells))]
 fn is(word: &[u8], keyword: &str) -> bool
     ensures { result ≡ spells word.now keyword.now }
 {

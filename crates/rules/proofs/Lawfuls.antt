@@ -1,6 +1,6 @@
 -- A line passes exactly if it obeys every rule.
 use Rattle.std.proofs.Common.{◌≡◌, ℕ, zero, suc, ◌+◌, ◌<◌, Bool, true, false, cond, not, ◌&&◌, List, [], ◌∷◌, is_some, Some, None, Ok, Err, Option, Result, sym, refl, ap, ◌∙◌, subst, ⊎_elim, arith}
-use Rattle.std.specs.List.{AllByRecursion as All}
+use Rattle.std.specs.List.{AllByRecursion}
 use Rattle.std.proofs.lemmas.Bool.{both_ways, cases_Bool, and_parts, and_from, not-true, not-false, not_from_true, not_from_false, ltb-true, lt-ltb, leb-false, lt-leb, eqb-true, eq-eqb}
 use Rattle.terms.specs.declared.holdings.Security.{Security}
 use Rattle.terms.specs.declared.holdings.Row.{Row}
@@ -217,13 +217,13 @@ was-passed i (Ok tt) e = refl
 was-passed i (Err fault) e = let z : ◌≡◌ {A = ℕ} 0 1 = cc in absurd (omega arith)
 
 module _ (rows : List Row) (securities : List Security) where
-  all_of : (lines : List Line) (i : ℕ) → lines_checked rows securities i lines ≡ Ok tt → All (Lawful rows securities) lines
+  all_of : (lines : List Line) (i : ℕ) → lines_checked rows securities i lines ≡ Ok tt → AllByRecursion (Lawful rows securities) lines
   all_of [] i e = tt
   all_of (line ∷ lines) i e =
       let p = and_both (told_in i (line_checked rows securities line)) _ tt e in
       (lawful-of rows securities line (was-passed i _ p.0), all_of lines (i + 1) p.1)
 
-  of-all : (lines : List Line) (i : ℕ) → All (Lawful rows securities) lines → lines_checked rows securities i lines ≡ Ok tt
+  of-all : (lines : List Line) (i : ℕ) → AllByRecursion (Lawful rows securities) lines → lines_checked rows securities i lines ≡ Ok tt
   of-all [] i h = refl
   of-all (line ∷ lines) i h =
       then-both (told_in i (line_checked rows securities line)) _ tt (ap (told_in i) (of-lawful rows securities line h.0)) (of-all lines (i + 1) h.1)

@@ -1,6 +1,6 @@
 -- The rendering of lines within their limits is read back as those lines.
 use Rattle.std.proofs.Common.{◌≡◌, ℕ, suc, ◌+◌, ◌-◌, ◌^◌, ◌<◌, ◌≤◌, Bool, true, eqb, ltb, List, [], ◌∷◌, ◌++◌, length, drop, replicate, Some, Ok, Option, Result, sym, refl, ap, ◌∙◌, append_assoc, append-nil, arith, length-append, length-drop}
-use Rattle.std.specs.List.{flat_map, AllByRecursion as All}
+use Rattle.std.specs.List.{flat_map, AllByRecursion}
 use Rattle.std.proofs.lemmas.Bool.{cond-true, eq-eqb, lt-ltb}
 use Rattle.terms.specs.declared.strategy.Kind.{Kind}
 use Rattle.terms.specs.declared.strategy.Leg.{Leg}
@@ -57,7 +57,7 @@ module _ (day cap n at : ℕ) (bs rest : List ℕ) where
       (cond-true (ltb n cap) _ _ (lt-ltb n cap lt) ∙ (ap found r ∙ ap (λ (x : Line). found (Ok x)) (sym q)))
 
 -- the lines that are left, and the trailer
-run-back : (day cap k at : ℕ) (ls more : List Line) (bs : List ℕ) → bs ≡ flat_map line_text more ++ trailer_text (length (ls ++ more)) → length bs ≤ k → length (ls ++ more) ≤ cap → length (ls ++ more) < 10 ^ 8 → All LineFits more →
+run-back : (day cap k at : ℕ) (ls more : List Line) (bs : List ℕ) → bs ≡ flat_map line_text more ++ trailer_text (length (ls ++ more)) → length bs ≤ k → length (ls ++ more) ≤ cap → length (ls ++ more) < 10 ^ 8 → AllByRecursion LineFits more →
     run k day cap at state.Strategies ls bs ≡ Ok (ls ++ more)
 run-back day cap k at ls [] bs e hk hc hn all =
     let a : ls ++ [] ≡ ls = append-nil ls in
@@ -82,7 +82,7 @@ run-back day cap k at ls (l ∷ more) bs e hk hc hn all =
     ∙ (run-back day cap (k - 1) (at + 38) (ls ++ (l ∷ [])) more (drop 38 bs) f s (omega arith) (omega arith) all.1 ∙ ap Ok a))
 
 -- the theorem
-pub reads-complete : (day cap : ℕ) (lines : List Line) → day < 10 ^ 8 → length lines ≤ cap → length lines < 10 ^ 8 → All LineFits lines → reads day cap (render day lines) ≡ Ok lines
+pub reads-complete : (day cap : ℕ) (lines : List Line) → day < 10 ^ 8 → length lines ≤ cap → length lines < 10 ^ 8 → AllByRecursion LineFits lines → reads day cap (render day lines) ≡ Ok lines
 reads-complete day cap lines hd hc hn all = go (render day lines) refl
   where
     go : (text : List ℕ) → text ≡ render day lines → reads day cap text ≡ Ok lines

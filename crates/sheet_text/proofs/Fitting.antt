@@ -1,6 +1,6 @@
 -- A line whose legs pass the test is within its limits.
 use Rattle.std.proofs.Common.{◌≡◌, ℕ, ◌+◌, ◌<◌, ◌≤◌, true, false, List, [], ◌∷◌, ◌++◌, length, get_or, take, drop, Some, None, sym, refl, ap, ◌∙◌, ⊎_elim, arith}
-use Rattle.std.specs.List.{AllByRecursion as All}
+use Rattle.std.specs.List.{AllByRecursion}
 use Rattle.std.proofs.lemmas.List.{take-append-drop, drop_more, length-take-le}
 use Rattle.std.proofs.lemmas.Bool.{cond-true, cond-false, cases_Bool}
 use Rattle.std.proofs.lemmas.Bool.Decides.{nat_tests}
@@ -40,7 +40,7 @@ leg-unfits l e fit =
     grind (arith, nat_tests)
 
 -- the first leg that does not fit, and those before it
-pub unfit-split : (k : ℕ) (ls : List Leg) (j : ℕ) → Some j ≡ unfit k ls → (pre : List Leg) × (leg : Leg) × (post : List Leg) × (ls ≡ pre ++ (leg ∷ post)) × (k + length pre ≡ j) × All LegFits pre × (LegFits leg → ⊥)
+pub unfit-split : (k : ℕ) (ls : List Leg) (j : ℕ) → Some j ≡ unfit k ls → (pre : List Leg) × (leg : Leg) × (post : List Leg) × (ls ≡ pre ++ (leg ∷ post)) × (k + length pre ≡ j) × AllByRecursion LegFits pre × (LegFits leg → ⊥)
 unfit-split k [] j e = absurd (let z : ◌≡◌ {A = ℕ} 0 1 = cc in omega arith)
 unfit-split k (l ∷ ls) j e = ⊎_elim
     (λ t. let r = unfit-split (k + 1) ls j (e ∙ cond-true (leg_fits l) _ _ t) in
@@ -50,7 +50,7 @@ unfit-split k (l ∷ ls) j e = ⊎_elim
     ([], l, ls, refl, omega arith, tt, leg-unfits l t))
     (cases_Bool (leg_fits l))
 
-pub first-unfit : (ls : List Line) (i j : ℕ) (d : Line) → i < length ls → All LineFits (take i ls) → Some j ≡ unfit 0 (get_or ls i d).legs → FirstUnfit ls i j
+pub first-unfit : (ls : List Line) (i j : ℕ) (d : Line) → i < length ls → AllByRecursion LineFits (take i ls) → Some j ≡ unfit 0 (get_or ls i d).legs → FirstUnfit ls i j
 first-unfit ls i j d h all e =
     let r = unfit-split 0 (get_or ls i d).legs j e in
     let a : ls ≡ take i ls ++ (get_or ls i d ∷ drop (i + 1) ls) = sym (take-append-drop i ls) ∙ ap (λ (x : List Line). take i ls ++ x) (drop_more ls i d h) in

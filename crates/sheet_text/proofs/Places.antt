@@ -1,6 +1,6 @@
 -- The place of a fault: what stands before it is lawful, record by record.
 use Rattle.std.proofs.Common.{◌≡◌, ℕ, zero, suc, ◌+◌, ◌-◌, ◌<◌, ◌≤◌, min, eqb, ltb, ◌⊎◌, List, [], ◌∷◌, ◌++◌, length, get_or, drop, replicate, Some, None, Ok, Err, Option, Result, sym, refl, ap, ◌∙◌, subst, inl, inr, ⊎_elim, append_assoc, append-nil, arith, length-append, length-drop, length-take}
-use Rattle.std.specs.List.{between, flat_map, AllByRecursion as All}
+use Rattle.std.specs.List.{between, flat_map, AllByRecursion}
 use Rattle.std.proofs.lemmas.List.{flat_map_more, length_push}
 use Rattle.std.proofs.ByRecursion.{All-push}
 use Rattle.std.proofs.lemmas.Bool.{cond-true, cond-false, eqb-true, eqb-false, ltb-true, ltb-false, cases_Bool}
@@ -169,10 +169,10 @@ moved text A B bs at e g h l =
 module _ (day room : ℕ) (text : List ℕ) (f : TextFault) where
   -- what the rest of a reading is to show
   abbrev Goes : ℕ → ℕ → Type 0
-  Goes k at = (b : Before) (bs : List ℕ) → text ≡ bytes_of day b ++ bs → length (bytes_of day b) ≡ at → All LineFits (lines_of b) → length (lines_of b) ≤ room → length bs ≤ k →
+  Goes k at = (b : Before) (bs : List ℕ) → text ≡ bytes_of day b ++ bs → length (bytes_of day b) ≡ at → AllByRecursion LineFits (lines_of b) → length (lines_of b) ≤ room → length bs ≤ k →
       run k day room at (state_of b) (lines_of b) bs ≡ Err f → Place day room text f
 
-  place : (at : ℕ) (b : Before) (bs : List ℕ) → text ≡ bytes_of day b ++ bs → length (bytes_of day b) ≡ at → All LineFits (lines_of b) → length (lines_of b) ≤ room → Here day room at b bs f → Place day room text f
+  place : (at : ℕ) (b : Before) (bs : List ℕ) → text ≡ bytes_of day b ++ bs → length (bytes_of day b) ≡ at → AllByRecursion LineFits (lines_of b) → length (lines_of b) ≤ room → Here day room at b bs f → Place day room text f
   place at b bs e l all few h =
       let P : ℕ → Type 0 = λ x. Here day room x b bs f in
       record { before = b; left = bs; text_is = e; lines_fit = all; few = few; here = subst P (sym l) h }
@@ -182,7 +182,7 @@ module _ (day room : ℕ) (text : List ℕ) (f : TextFault) where
   end-told at (begun ls) e = let q : OutOfTurn at ≡ f = cc in let P : TextFault → Type 0 = λ x. Here day room at (begun ls) [] x in subst P q (refl, inl (refl, tt))
   end-told at (whole ls) e = absurd (let z : ◌≡◌ {A = ℕ} 0 1 = cc in omega arith)
 
-  next-told : (k at : ℕ) (b : Before) (bs : List ℕ) (br : Brought) → Goes k (at + 38) → text ≡ bytes_of day b ++ bs → length (bytes_of day b) ≡ at → All LineFits (lines_of b) → length (lines_of b) ≤ room → length bs ≤ suc k →
+  next-told : (k at : ℕ) (b : Before) (bs : List ℕ) (br : Brought) → Goes k (at + 38) → text ≡ bytes_of day b ++ bs → length (bytes_of day b) ≡ at → AllByRecursion LineFits (lines_of b) → length (lines_of b) ≤ room → length bs ≤ suc k →
       (38 ≤ length bs) × TurnIs day (length (lines_of b)) (state_of b) br bs (drop 38 bs) × FoundRoom (Ok br) (length (lines_of b)) room →
       run k day room (at + 38) (next_state (state_of b) br) (kept (lines_of b) br) (drop 38 bs) ≡ Err f → Place day room text f
   next-told k at nothing bs step.Opened goes e l all few hk t h =
@@ -206,7 +206,7 @@ module _ (day room : ℕ) (text : List ℕ) (f : TextFault) where
   next-told k at (whole ls) bs (step.Found x) goes e l all few hk t h = absurd t.1
   next-told k at (whole ls) bs step.Closed goes e l all few hk t h = absurd t.1
 
-  record-told : (k at : ℕ) (b : Before) (bs : List ℕ) → Goes k (at + 38) → 0 < length bs → text ≡ bytes_of day b ++ bs → length (bytes_of day b) ≡ at → All LineFits (lines_of b) → length (lines_of b) ≤ room → length bs ≤ suc k →
+  record-told : (k at : ℕ) (b : Before) (bs : List ℕ) → Goes k (at + 38) → 0 < length bs → text ≡ bytes_of day b ++ bs → length (bytes_of day b) ≡ at → AllByRecursion LineFits (lines_of b) → length (lines_of b) ≤ room → length bs ≤ suc k →
       (r : Result Brought TextFault) → step_of day room (length (lines_of b)) at (state_of b) bs ≡ r →
       and_then r (λ s. run k day room (at + 38) (next_state (state_of b) s) (kept (lines_of b) s) (drop 38 bs)) ≡ Err f → Place day room text f
   record-told k at b bs goes p e l all few hk (Ok br) is h = next-told k at b bs br goes e l all few hk (step_ok day room (length (lines_of b)) at (state_of b) bs br is) h

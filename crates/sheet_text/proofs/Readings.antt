@@ -1,6 +1,6 @@
 -- What the functional account of a reading says in terms of `render`.
 use Rattle.std.proofs.Common.{◌≡◌, ℕ, ◌+◌, ◌*◌, ◌^◌, ◌<◌, ◌≤◌, min, true, cond, leb, List, ◌∷◌, ◌++◌, length, take, drop, Ok, Err, Result, sym, ap, ◌∙◌, ⊎_elim, append_assoc, arith, length-take}
-use Rattle.std.specs.List.{AllByRecursion as All}
+use Rattle.std.specs.List.{AllByRecursion}
 use Rattle.std.proofs.lemmas.List.{take_at}
 use Rattle.std.proofs.lemmas.Bool.{cond-true, cond-false, le-leb, cases_Bool}
 use Rattle.std.proofs.lemmas.Bool.Decides.{nat_tests}
@@ -30,7 +30,7 @@ pub day-limits : (day : ℕ) → is_day day ≡ true → (1 ≤ day) × (day ≤
 day-limits day t = grind (arith, nat_tests)
 
 -- a rendering is read as its lines
-pub reads_all-back : (day room : ℕ) (lines : List Line) (text : List ℕ) → is_day day ≡ true → All LineFits lines → length lines ≤ min room 64 → text ≡ render day lines → reads_all day room text ≡ Ok lines
+pub reads_all-back : (day room : ℕ) (lines : List Line) (text : List ℕ) → is_day day ≡ true → AllByRecursion LineFits lines → length lines ≤ min room 64 → text ≡ render day lines → reads_all day room text ≡ Ok lines
 reads_all-back day room lines text t all few is =
     let lim = day-limits day t in
     let c : reads day (min room 64) text ≡ Ok lines = ap (reads day (min room 64)) is ∙ reads-complete day (min room 64) lines (omega arith) few (omega arith) all in
@@ -57,7 +57,7 @@ day-same a b S R S' R' ha hb e =
     column-same 8 a b (omega arith) ha hb t
 
 -- a rendering is of one day and of one list of lines
-pub render-same : (a b : ℕ) (ls ms : List Line) → is_day a ≡ true → is_day b ≡ true → All LineFits ls → All LineFits ms → length ms ≤ 64 → render a ls ≡ render b ms → (a ≡ b) × (ls ≡ ms)
+pub render-same : (a b : ℕ) (ls ms : List Line) → is_day a ≡ true → is_day b ≡ true → AllByRecursion LineFits ls → AllByRecursion LineFits ms → length ms ≤ 64 → render a ls ≡ render b ms → (a ≡ b) × (ls ≡ ms)
 render-same a b ls ms ta tb fl fm few e =
     let la = day-limits a ta in
     let lb = day-limits b tb in
@@ -73,7 +73,7 @@ render-same a b ls ms ta tb fl fm few e =
     (d, cc)
 
 -- what a writer wrote: the buffer begins with it
-pub front-is : (day : ℕ) (lines : List Line) (new tail : List ℕ) (n : ℕ) → All LineFits lines → n ≡ 38 * (length lines + 2) → new ≡ render day lines ++ tail → take n new ≡ render day lines
+pub front-is : (day : ℕ) (lines : List Line) (new tail : List ℕ) (n : ℕ) → AllByRecursion LineFits lines → n ≡ 38 * (length lines + 2) → new ≡ render day lines ++ tail → take n new ≡ render day lines
 front-is day lines new tail n all e is = ap (take n) is ∙ take_at (render day lines) tail n (render-width day lines all ∙ sym e)
 
 module _ (day : ℕ) (text : List ℕ) (old new : List Line) where

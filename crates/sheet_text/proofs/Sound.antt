@@ -1,6 +1,6 @@
 -- A text that is read is the rendering of the lines that it is read as.
 use Rattle.std.proofs.Common.{◌≡◌, ℕ, zero, suc, ◌+◌, ◌-◌, Bool, true, false, eqb, ltb, ◌⊎◌, List, [], ◌∷◌, ◌++◌, length, drop, replicate, Some, None, Ok, Err, Option, Result, sym, refl, ap, ◌∙◌, subst, ⊎_elim, append_assoc, append-nil, arith}
-use Rattle.std.specs.List.{flat_map, AllByRecursion as All}
+use Rattle.std.specs.List.{flat_map, AllByRecursion}
 use Rattle.std.proofs.lemmas.Bool.{cond-true, cond-false, eqb-true, cases_Bool}
 use Rattle.terms.specs.declared.strategy.Kind.{Kind}
 use Rattle.terms.specs.declared.strategy.Line.{Line}
@@ -104,8 +104,8 @@ turn-sound day cap n at state.End (trailer f b) br w e rest = no e
 
 -- what is left of the text, where `ls` are found and `out` is the answer
 abbrev pub Left : ℕ → State → List Line → List Line → List ℕ → Type 0
-Left day state.Head ls out bs = (more : List Line) × (out ≡ ls ++ more) × (bs ≡ head_text day ++ (flat_map line_text more ++ trailer_text (length out))) × All LineFits more
-Left day state.Strategies ls out bs = (more : List Line) × (out ≡ ls ++ more) × (bs ≡ flat_map line_text more ++ trailer_text (length out)) × All LineFits more
+Left day state.Head ls out bs = (more : List Line) × (out ≡ ls ++ more) × (bs ≡ head_text day ++ (flat_map line_text more ++ trailer_text (length out))) × AllByRecursion LineFits more
+Left day state.Strategies ls out bs = (more : List Line) × (out ≡ ls ++ more) × (bs ≡ flat_map line_text more ++ trailer_text (length out)) × AllByRecursion LineFits more
 Left day state.End ls out bs = (out ≡ ls) × (bs ≡ [])
 
 join : (day : ℕ) (st : State) (br : Brought) (ls out : List Line) (bs rest : List ℕ) → TurnIs day (length ls) st br bs rest → Left day (next_state st br) (kept ls br) out rest → Left day st ls out bs
@@ -148,8 +148,8 @@ run_sound (suc k) day cap at st ls (b ∷ bs) out e =
     (run_sound k day cap (at + 38) (next_state st p.0) (kept ls p.0) (drop 38 (b ∷ bs)) out p.2)
 
 -- the theorem
-pub reads-sound : (day cap : ℕ) (text : List ℕ) (out : List Line) → reads day cap text ≡ Ok out → (text ≡ render day out) × All LineFits out
+pub reads-sound : (day cap : ℕ) (text : List ℕ) (out : List Line) → reads day cap text ≡ Ok out → (text ≡ render day out) × AllByRecursion LineFits out
 reads-sound day cap text out e =
     let r = run_sound (length text) day cap 0 state.Head [] text out e in
-    let P : List Line → Type 0 = λ x. (text ≡ head_text day ++ (flat_map line_text x ++ trailer_text (length out))) × All LineFits x in
+    let P : List Line → Type 0 = λ x. (text ≡ head_text day ++ (flat_map line_text x ++ trailer_text (length out))) × AllByRecursion LineFits x in
     subst P (sym r.1) (r.2, r.3)

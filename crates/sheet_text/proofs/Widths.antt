@@ -1,6 +1,6 @@
 -- How many bytes a rendering has, and that lines that fit pass the writer's test.
 use Rattle.std.proofs.Common.{◌≡◌, ℕ, ◌+◌, ◌*◌, true, List, [], ◌∷◌, ◌++◌, length, replicate, None, Ok, Option, refl, ap, ◌∙◌, arith, length-append}
-use Rattle.std.specs.List.{flat_map, AllByRecursion as All}
+use Rattle.std.specs.List.{flat_map, AllByRecursion}
 use Rattle.std.proofs.lemmas.Bool.{cond-true}
 use Rattle.std.proofs.lemmas.Bool.Decides.{nat_tests}
 use Rattle.terms.specs.declared.strategy.Leg.{Leg}
@@ -25,11 +25,11 @@ line-width l fit =
 pub count-width : (v n : ℕ) (S : List ℕ) → length S ≡ 28 → length (v ∷ (column 8 n ++ (S ++ (10 ∷ [])))) ≡ 38
 count-width v n S e = omega (arith, length-append (column 8 n) (S ++ (10 ∷ [])), length-append S (10 ∷ []), length-column 8 n)
 
-pub lines-width : (ls : List Line) → All LineFits ls → length (flat_map line_text ls) ≡ 38 * length ls
+pub lines-width : (ls : List Line) → AllByRecursion LineFits ls → length (flat_map line_text ls) ≡ 38 * length ls
 lines-width [] all = refl
 lines-width (l ∷ ls) all = length-append (line_text l) (flat_map line_text ls) ∙ omega (arith, line-width l all.0, lines-width ls all.1)
 
-pub render-width : (day : ℕ) (ls : List Line) → All LineFits ls → length (render day ls) ≡ 38 * (length ls + 2)
+pub render-width : (day : ℕ) (ls : List Line) → AllByRecursion LineFits ls → length (render day ls) ≡ 38 * (length ls + 2)
 render-width day ls all = go (head_text day) (flat_map line_text ls) (trailer_text (length ls)) (count-width 72 day (replicate 28 32) refl) (lines-width ls all) (count-width 84 (length ls) (replicate 28 32) refl)
   where
     go : (H J T : List ℕ) → length H ≡ 38 → length J ≡ 38 * length ls → length T ≡ 38 → length (H ++ (J ++ T)) ≡ 38 * (length ls + 2)
@@ -46,6 +46,6 @@ line-pass l fit =
     ap (unfit 0) fit.legs_are
     ∙ fit-pass 0 fit.leg_1 (fit.leg_2 ∷ fit.leg_3 ∷ fit.leg_4 ∷ []) None fit.fit_1 (fit-pass (0 + 1) fit.leg_2 (fit.leg_3 ∷ fit.leg_4 ∷ []) None fit.fit_2 (fit-pass (0 + 1 + 1) fit.leg_3 (fit.leg_4 ∷ []) None fit.fit_3 (fit-pass (0 + 1 + 1 + 1) fit.leg_4 [] None fit.fit_4 refl)))
 
-pub lines-pass : (i : ℕ) (ls : List Line) → All LineFits ls → fit_of_lines i ls ≡ Ok tt
+pub lines-pass : (i : ℕ) (ls : List Line) → AllByRecursion LineFits ls → fit_of_lines i ls ≡ Ok tt
 lines-pass i [] all = refl
 lines-pass i (l ∷ ls) all = ap (λ (o : Option ℕ). unfit_at i o (fit_of_lines (i + 1) ls)) (line-pass l all.0) ∙ lines-pass (i + 1) ls all.1

@@ -1,6 +1,6 @@
 -- What reading and writing say of the format: which texts are accepted, and that nothing is lost either way.
 use Rattle.std.specs.Prelude.{◌≡◌, ℕ, ◌≤◌, min, true, List, length, take, drop, Ok, Err, Result}
-use Rattle.std.specs.List.{AllByRecursion as All}
+use Rattle.std.specs.List.{AllByRecursion}
 use Rattle.terms.specs.Limits.{is_day, most_lines}
 use Rattle.terms.specs.declared.strategy.Line.{Line}
 use Rattle.sheet_text.specs.declared.fault.TextFault.{TextFault}
@@ -11,7 +11,7 @@ use Rattle.sheet_text.specs.Writing.{writes}
 -- the text is the rendering of a day and of lines that fit the format, for which there is room
 pub record Lawful (day room : ℕ) (lines : List Line) (text : List ℕ) : Type 0 where
   pub day_fits : is_day day ≡ true
-  pub lines_fit : All LineFits lines
+  pub lines_fit : AllByRecursion LineFits lines
   pub few : length lines ≤ min room most_lines
   pub text_is : text ≡ render day lines
 
@@ -43,5 +43,5 @@ Back day lines new (Err e) = Unit {0}
 
 -- what is written is the rendering of no other day and of no other lines
 abbrev pub Unique : ℕ → List Line → List ℕ → Result ℕ TextFault → Type 0
-Unique day lines new (Ok n) = (other : ℕ) (others : List Line) → is_day other ≡ true → All LineFits others → take n new ≡ render other others → (other ≡ day) × (others ≡ lines)
+Unique day lines new (Ok n) = (other : ℕ) (others : List Line) → is_day other ≡ true → AllByRecursion LineFits others → take n new ≡ render other others → (other ≡ day) × (others ≡ lines)
 Unique day lines new (Err e) = Unit {0}

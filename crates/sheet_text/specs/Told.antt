@@ -1,6 +1,6 @@
 -- What a denial tells of a text: what stands before its place is lawful, and what stands there fails that test as the first.
 use Rattle.std.specs.Prelude.{◌≡◌, ℕ, ◌+◌, ◌^◌, ◌<◌, ◌≤◌, min, true, false, ◌⊎◌, List, [], ◌++◌, length, take, replicate, Ok, Err, Result, ◌≢◌, slice_index, slice_index_or}
-use Rattle.std.specs.List.{between, flat_map, AllByRecursion as All}
+use Rattle.std.specs.List.{between, flat_map, AllByRecursion}
 use Rattle.terms.specs.Limits.{is_day, most_lines}
 use Rattle.terms.specs.declared.strategy.Kind.{Kind}
 use Rattle.terms.specs.declared.strategy.Leg.{Leg}
@@ -130,7 +130,7 @@ pub record Place (day room : ℕ) (text : List ℕ) (fault : TextFault) : Type 0
   pub before : Before
   pub left : List ℕ
   pub text_is : text ≡ bytes_of day before ++ left
-  pub lines_fit : All LineFits (lines_of before)
+  pub lines_fit : AllByRecursion LineFits (lines_of before)
   pub few : length (lines_of before) ≤ room
   pub here : Here day room (length (bytes_of day before)) before left fault
 

@@ -1,6 +1,6 @@
 -- What may be written, and what is written.
 use Rattle.std.specs.Prelude.{◌≡◌, ℕ, ◌+◌, ◌*◌, ◌<◌, ◌≤◌, Bool, true, false, cond, List, [], ◌∷◌, ◌++◌, length, drop, Some, None, Ok, Err, Option, Result, ◌==◌, nat_le, nat_lt}
-use Rattle.std.specs.List.{AllByRecursion as All}
+use Rattle.std.specs.List.{AllByRecursion}
 use Rattle.terms.specs.Limits.{is_day, most_lines}
 use Rattle.terms.specs.declared.strategy.Leg.{Leg}
 use Rattle.terms.specs.declared.strategy.Line.{Line}
@@ -35,18 +35,18 @@ pub record FirstUnfit (lines : List Line) (i j : ℕ) : Type 0 where
   pub after : List Line
   pub lines_are : lines ≡ before ++ (line ∷ after)
   pub line_at : length before ≡ i
-  pub before_fit : All LineFits before
+  pub before_fit : AllByRecursion LineFits before
   pub first : List Leg
   pub leg : Leg
   pub more : List Leg
   pub legs_are : line.legs ≡ first ++ (leg ∷ more)
   pub at_leg : length first ≡ j
-  pub first_fit : All LegFits first
+  pub first_fit : AllByRecursion LegFits first
   pub unfit_leg : LegFits leg → ⊥
 
 -- lines without a fault fit, and the fault of others is that of their first unfit leg
 abbrev pub AllFit : Result (Unit {0}) TextFault → List Line → Type 0
-AllFit (Ok u) ls = All LineFits ls
+AllFit (Ok u) ls = AllByRecursion LineFits ls
 AllFit (Err DayOutsideLimits) ls = ⊥
 AllFit (Err (LegOutsideFormat i j)) ls = FirstUnfit ls i j
 AllFit (Err (TooManyLines limit)) ls = ⊥
@@ -74,7 +74,7 @@ writes day lines room =
 -- a sheet that may be written, in n bytes
 pub record Writable (day : ℕ) (lines : List Line) (room n : ℕ) : Type 0 where
   pub day_fits : is_day day ≡ true
-  pub lines_fit : All LineFits lines
+  pub lines_fit : AllByRecursion LineFits lines
   pub few : length lines ≤ most_lines
   pub bytes : n ≡ bytes_for (length lines)
   pub space : n ≤ room
@@ -84,9 +84,9 @@ abbrev pub Judged : ℕ → List Line → ℕ → Result ℕ TextFault → Type 
 Judged day lines room (Ok n) = Writable day lines room n
 Judged day lines room (Err DayOutsideLimits) = is_day day ≡ false
 Judged day lines room (Err (LegOutsideFormat i j)) = (is_day day ≡ true) × FirstUnfit lines i j
-Judged day lines room (Err (TooManyLines limit)) = (is_day day ≡ true) × All LineFits lines × (limit ≡ most_lines) × (most_lines < length lines)
+Judged day lines room (Err (TooManyLines limit)) = (is_day day ≡ true) × AllByRecursion LineFits lines × (limit ≡ most_lines) × (most_lines < length lines)
 Judged day lines room (Err (BufferTooShort needed)) =
-    (is_day day ≡ true) × All LineFits lines × (length lines ≤ most_lines) × (needed ≡ bytes_for (length lines)) × (room < needed)
+    (is_day day ≡ true) × AllByRecursion LineFits lines × (length lines ≤ most_lines) × (needed ≡ bytes_for (length lines)) × (room < needed)
 Judged day lines room (Err (BrokenRecord at)) = ⊥
 Judged day lines room (Err (UnknownLetter at)) = ⊥
 Judged day lines room (Err (IllFormed at)) = ⊥

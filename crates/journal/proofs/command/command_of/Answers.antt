@@ -11,7 +11,7 @@ returns-in-Some c =
     let line = texts c.args.line.now in
     let found = ap verb_of (word_at c.args.line.now 0 _ c.requires) ∙ sym c.in-Some.ensures in
     let is : order_of line ≡ order_by c.in-Some.verb line = ap (λ known. chosen known UnknownCommand (λ verb. order_by verb line)) found in
-    rw is c.command-by.ensures
+    rw is c.command_by.ensures
 
 pub returns-in-None : goal.returns-in-None
 unfolding order_of

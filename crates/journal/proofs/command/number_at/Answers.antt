@@ -10,4 +10,4 @@ returns-in-Ok c = ap (placed c.args.word) (c.in-Ok.ensures ∙ ap number_of (sym
 
 pub returns-in-Err : goal.returns-in-Err
 unfolding number_at
-returns-in-Err c = rw c.fault-at.ensures (ap (placed c.args.word) (c.in-Err.ensures ∙ ap number_of (sym (word_at _ _ _ c.requires))))
+returns-in-Err c = rw c.fault_at.ensures (ap (placed c.args.word) (c.in-Err.ensures ∙ ap number_of (sym (word_at _ _ _ c.requires))))

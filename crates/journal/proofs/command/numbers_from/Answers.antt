@@ -15,7 +15,7 @@ returns-in-Err c =
 pub loop-k-preserved : goal.loop-k-preserved
 loop-k-preserved c =
     let in-line : c.loop-k.k < length (texts c.args.line.now) = rw length-texts c.loop-k-test.true in
-    let pushed = chosen _ _ _ _ c.push.ensures.items (ap is_ok c.in-ok-push.was) in
+    let pushed = chosen _ _ _ _ c.push.ensures.items (ap is_ok c.in_ok-push-in-Ok.was) in
     rw pushed (sym (ahead_more _ _ _ _ in-line c.in-Ok.ensures) ∙ c.loop-k.invariant)
 
 pub returns : goal.returns

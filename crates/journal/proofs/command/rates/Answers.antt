@@ -19,7 +19,7 @@ returns-in-Some c =
     let line = texts c.args.line.now in
     let found = ap source_of (word_at c.args.line.now 1 _ c.if-line-lt2.false) ∙ sym c.in-Some.ensures in
     let is : rates_of line ≡ rates_by c.in-Some.source line = ap (λ known. chosen known NoSuchRates (λ source. rates_by source line)) found in
-    rw is c.rates-by.ensures
+    rw is c.rates_by.ensures
 
 pub returns-in-None : goal.returns-in-None
 unfolding rates_of

@@ -9,12 +9,12 @@ use Rattle.journal.proofs.command.sheet_file.Goals as goal
 abbrev with-file : List (List ℕ) → Result ℕ Unreadable → Result DatedFile Unreadable
 with-file line day = next day (λ d. Ok (record { day = d; file = get_or line 2 [] }))
 
-pub returns-in-ok-from-slice : goal.returns-in-ok-from-slice
+pub returns-in_ok-from_slice-in-Ok : goal.returns-in_ok-from_slice-in-Ok
 unfolding sheet_file_of
-returns-in-ok-from-slice c =
+returns-in_ok-from_slice-in-Ok c =
     let three = c.in-Ok.ensures.long in
     let is : 2 < length c.args.line.now = omega arith in
-    let file = c.in-ok-from-slice.ensures.items ∙ sym (word_at c.args.line.now 2 _ is) in
+    let file = c.in_ok-from_slice-in-Ok.ensures.items ∙ sym (word_at c.args.line.now 2 _ is) in
     ap (λ f. Ok (record { day = c.in-Ok.day; file = f })) file ∙ ap (with-file (texts c.args.line.now)) c.in-Ok.ensures.value
 
 pub returns-in-Err : goal.returns-in-Err

@@ -12,18 +12,18 @@ returns-then-line c = search (rules, length-texts)
 pub loop-k-init : goal.loop-k-init
 loop-k-init c = filled_none _
 
-pub returns-in-err-percentages : goal.returns-in-err-percentages
-returns-in-err-percentages c =
+pub returns-in_err-percentages : goal.returns-in_err-percentages
+returns-in_err-percentages c =
     let few : length (texts c.args.line.now) ≤ 17 = rw length-texts (omega arith) in
     let in-line : c.loop-k.k < length (texts c.args.line.now) = rw length-texts c.loop-k-test.true in
-    let p = err_from_is_err_and c.from-residual.result c.from-residual.ensures.1 in
-    rw (p.1, p.2) (sym (filled-stop c.loop-k.invariant few _ in-line c.in-err-percentages.ensures))
+    let p = err_from_is_err_and c.from_residual.result c.from_residual.ensures.1 in
+    rw (p.1, p.2) (sym (filled-stop c.loop-k.invariant few _ in-line c.in_err-percentages.ensures))
 
 pub loop-k-preserved : goal.loop-k-preserved
 loop-k-preserved c =
     let few : length (texts c.args.line.now) ≤ 17 = rw length-texts (omega arith) in
     let in-line : c.loop-k.k < length (texts c.args.line.now) = rw length-texts c.loop-k-test.true in
-    filled_more c.loop-k.invariant few _ in-line c.in-ok-percentages.ensures
+    filled_more c.loop-k.invariant few _ in-line c.in_ok-percentages.ensures
 
 pub returns : goal.returns
 returns c =

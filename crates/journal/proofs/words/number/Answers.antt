@@ -16,4 +16,4 @@ pub loop-digit-preserved : goal.loop-digit-preserved
 loop-digit-preserved c = rw c.from.ensures (turn c.loop-digit.invariant c.loop-digit-test.true).more
 
 pub returns : goal.returns
-returns c = ends c.loop-digit.invariant c.loop-digit-test.false (omega (arith, eqb-false _ 0 (sym c.if-is-empty.ensures)))
+returns c = ends c.loop-digit.invariant c.loop-digit-test.false (omega (arith, eqb-false _ 0 (sym c.if-is_empty.ensures)))

@@ -6,5 +6,5 @@ empty : (line : List ℕ) → length line ≡ 0 → line ≡ without_line_feed l
 empty [] e = refl
 empty (b ∷ line) e = absurd (omega arith)
 
-pub returns-then-is-empty : goal.returns-then-is-empty
-returns-then-is-empty c = empty c.args.line.now (search rules)
+pub returns-then-is_empty : goal.returns-then-is_empty
+returns-then-is_empty c = empty c.args.line.now (search rules)

@@ -1,5 +1,5 @@
 use Rattle.std.proofs.Common.{◌≡◌, List, [], length, get_or, sym, ◌∙◌, subst, rules}
-use Rattle.std.specs.List.{AllByRecursion as All}
+use Rattle.std.specs.List.{AllByRecursion}
 use Rattle.std.proofs.lemmas.List.{take_all}
 use Rattle.std.proofs.ByRecursion.{All-more}
 use Rattle.terms.specs.declared.strategy.Line.{Line}
@@ -28,5 +28,5 @@ loop-i-preserved c =
 
 pub returns : goal.returns
 returns c =
-    let P : List Line → Type 0 = λ x. All LineFits x in
+    let P : List Line → Type 0 = λ x. AllByRecursion LineFits x in
     record { first = sym (sym c.loop-i.invariant.0 ∙ fit_all c.args.lines.now c.loop-i.i c.loop-i-test.false); all = subst P (take_all c.loop-i.i c.args.lines.now c.loop-i-test.false) c.loop-i.invariant.1 }

@@ -5,5 +5,5 @@ use Rattle.book.proofs.ledger.Book.list_security.Goals as goal
 pub returns : goal.returns
 returns c = called _ _ _ (search rules)
 
-pub returns-in-err-security : goal.returns-in-err-security
-returns-in-err-security c = called _ _ _ (search rules)
+pub returns-in_err-security : goal.returns-in_err-security
+returns-in_err-security c = called _ _ _ (search rules)

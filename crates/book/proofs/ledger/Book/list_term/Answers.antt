@@ -5,5 +5,5 @@ use Rattle.book.proofs.ledger.Book.list_term.Goals as goal
 pub returns : goal.returns
 returns c = called _ _ _ (search rules)
 
-pub returns-in-err-row : goal.returns-in-err-row
-returns-in-err-row c = called _ _ _ (search rules)
+pub returns-in_err-row : goal.returns-in_err-row
+returns-in_err-row c = called _ _ _ (search rules)

@@ -5,5 +5,5 @@ use Rattle.book.proofs.ledger.Book.trade.Goals as goal
 pub returns : goal.returns
 returns c = called _ _ _ (search rules)
 
-pub returns-in-err-after : goal.returns-in-err-after
-returns-in-err-after c = called _ _ _ (search rules)
+pub returns-in_err-after : goal.returns-in_err-after
+returns-in_err-after c = called _ _ _ (search rules)
