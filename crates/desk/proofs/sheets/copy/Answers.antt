@@ -3,8 +3,8 @@ use Rattle.sheet_text.specs.Sheet.{render}
 use Rattle.sheet_text.specs.Writing.{writes}
 use Rattle.desk.proofs.sheets.copy.Goals as goal
 
-pub write-again-requires : goal.write-again-requires
-write-again-requires c =
+pub write_again-requires : goal.write_again-requires
+write_again-requires c =
     let list = c.read.new.list in
     let text = c.args.text.now in
     let again = c.in-Ok.ensures.again in

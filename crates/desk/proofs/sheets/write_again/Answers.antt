@@ -11,7 +11,7 @@ whole old new text n all is = is ∙ ap (λ rest. text ++ rest) (drop_all n old 
 pub returns : goal.returns
 returns c =
     let text = c.args.text.now in
-    let old = c.as-mut-slice.result.now in
+    let old = c.as_mut_slice.result.now in
     let new = c.write.new.out in
     let exact = c.in-Ok-write.ensures.exact in
     let long : length old ≡ length text = search rules in
