@@ -7,7 +7,7 @@ returns-then-is_misplaced c =
 
 pub loop-leg-preserved : goal.loop-leg-preserved
 loop-leg-preserved c =
-    first_more c.args.legs.now c.loop-leg.leg-index c.loop-leg.after_used c.loop-leg.invariant _ c.loop-leg-test.true c.if-is_misplaced.ensures c.is-used-after-used.ensures
+    first_more c.args.legs.now c.loop-leg.leg-index c.loop-leg.after_used c.loop-leg.invariant _ c.loop-leg-test.true c.if-is_misplaced.ensures c.is_used-after_used.ensures
 
 pub returns : goal.returns
 returns c = first-all c.args.legs.now c.loop-leg.leg-index c.loop-leg.after_used c.loop-leg.invariant c.loop-leg-test.false
