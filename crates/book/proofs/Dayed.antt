@@ -1,5 +1,5 @@
 -- What the next day keeps true.
-use Rattle.std.proofs.Common.{◌≡◌, ℕ, ◌<◌, Bool, true, false, ◌||◌, ltb, List, ◌∷◌, ℤ, pos, ◌+ℤ◌, Some, None, Ok, Option, sym, refl, ap, ◌∙◌, ap₂, ⊎_elim, arith}
+use Rattle.std.proofs.Common.{◌≡◌, ℕ, ◌<◌, Bool, true, false, ◌||◌, ltb, List, ◌∷◌, pos, ◌+ℤ◌, Some, None, Ok, Option, sym, refl, ap, ◌∙◌, ap₂, ⊎_elim, arith}
 use Rattle.std.proofs.lemmas.Bool.{ltb-true, ltb-false, le-ltb, cases_Bool, or_cases, cond-true, cond-false, cond_both}
 use Rattle.terms.specs.declared.holdings.Row.{Row}
 use Rattle.lines.specs.Lots.{fitting}

@@ -3,7 +3,7 @@ use Rattle.std.proofs.Common.{◌≡◌, ℕ, ◌≤◌, true, leb, List, ◌∷
 use Rattle.std.proofs.lemmas.Int.{ints}
 use Rattle.std.proofs.lemmas.Bool.{leb-true, and_parts}
 use borrow.Author.Differences.{up, down}
-use Rattle.lines.specs.Lots.{held, written, fits, fitting}
+use Rattle.lines.specs.Lots.{held, written, fitting}
 use Rattle.book.specs.Calls.{State, Opening, opened}
 use Rattle.book.specs.History.{Event, Settles, Led, start, more, standing}
 use Rattle.book.specs.Promise.{grouped, OneSide, Promise, GoesOn, Call}

@@ -5,7 +5,7 @@ use Rattle.std.proofs.lemmas.Bool.{cond-true, cond-false, le-leb}
 use Rattle.journal.specs.declared.command.Command.{Command}
 use Rattle.journal.specs.declared.command.Unreadable.{Unreadable}
 use Rattle.journal.specs.Words.{texts, words_of}
-use Rattle.journal.specs.Commands.{Order, surcharge, skipped, next, number_at, numbers_at, numbers_from, surcharge_of, order_of, saying, saying_of, is_comment, reading, heard}
+use Rattle.journal.specs.Commands.{surcharge, skipped, next, number_at, numbers_at, numbers_from, surcharge_of, order_of, saying, saying_of, is_comment, reading, heard}
 
 pub length-texts : (parts : List (Bor (List ℕ))) → length (texts parts) ≡ length parts
 length-texts parts = length-map parts (λ part. part.now)

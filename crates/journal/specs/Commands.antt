@@ -7,7 +7,7 @@ use Rattle.terms.specs.declared.OptionType.TheVariants.{Call, Put}
 use Rattle.rates.specs.declared.rate_book.Quote.{Quote}
 use Rattle.journal.specs.Words.{words_of, number_of}
 use Rattle.journal.specs.declared.words.NotNumber as words
-use Rattle.journal.specs.declared.words.NotNumber.TheVariants as not
+use Rattle.journal.specs.declared.words.NotNumber.TheVariants as no_number
 use Rattle.journal.specs.declared.command.Verb.{Verb}
 use Rattle.journal.specs.declared.command.Verb.TheVariants as verb
 use Rattle.journal.specs.declared.command.Source.{Source}
@@ -51,8 +51,8 @@ chosen None fault then = Err fault
 
 -- what is wrong with a number, and where
 abbrev pub fault_at : ℕ → words.NotNumber → Unreadable
-fault_at k not.NotDigits = NotNumber k
-fault_at k not.TooManyDigits = TooManyDigits k
+fault_at k no_number.NotDigits = NotNumber k
+fault_at k no_number.TooManyDigits = TooManyDigits k
 
 -- a number that was read at index k
 abbrev pub placed : ℕ → Result ℕ words.NotNumber → Result ℕ Unreadable

@@ -7,8 +7,8 @@ use std::test::Fail;
 fn cuts_at_spaces_alone(rt: HostRuntime) -> Result<(), Fail> {
     let found = words(rt.alloc(), b"  rates\tscale   list ")?;
     assert!(rt; found.len() == 2);
-    assert_eq!(rt; found[0], b"rates\tscale");
-    assert_eq!(rt; found[1], b"list");
+    assert_eq!(rt; found[0], b"rates\tscale".as_slice());
+    assert_eq!(rt; found[1], b"list".as_slice());
     Ok(())
 }
 
@@ -37,10 +37,16 @@ fn tells_the_fault(rt: HostRuntime) -> Result<(), Fail> {
 
 #[test]
 fn drops_one_line_feed(rt: HostRuntime) {
-    assert_eq!(rt; without_line_feed(b"rates scale\n"), b"rates scale");
-    assert_eq!(rt; without_line_feed(b"rates scale"), b"rates scale");
-    assert_eq!(rt; without_line_feed(b"\n\n"), b"\n");
-    assert_eq!(rt; without_line_feed(b""), b"");
+    assert_eq!(rt;
+        without_line_feed(b"rates scale\n"),
+        b"rates scale".as_slice()
+    );
+    assert_eq!(rt;
+        without_line_feed(b"rates scale"),
+        b"rates scale".as_slice()
+    );
+    assert_eq!(rt; without_line_feed(b"\n\n"), b"\n".as_slice());
+    assert_eq!(rt; without_line_feed(b""), b"".as_slice());
 }
 
 #[test]
@@ -64,7 +70,7 @@ fn reads_commands(rt: HostRuntime) -> Result<(), Fail> {
     else {
         return Err(Fail::new("no list"));
     };
-    assert_eq!(rt; amounts.as_slice(), &[7, 10]);
+    assert_eq!(rt; amounts.as_slice(), [7, 10].as_slice());
     let Reading::Command(Command::Surcharge(percentages)) = read(rt.alloc(), b"surcharge 5 0 9")?
     else {
         return Err(Fail::new("no surcharge"));

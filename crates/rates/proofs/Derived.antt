@@ -1,5 +1,5 @@
 -- The laws of the scale and of the surcharge.
-use Rattle.std.proofs.Common.{◌≡◌, ℕ, ◌+◌, ◌*◌, ◌≤◌, mul-add, arith}
+use Rattle.std.proofs.Common.{ℕ, ◌≤◌, mul-add, arith}
 use Rattle.std.proofs.lemmas.Bool.Decides.{nat_tests}
 use Rattle.rates.specs.Rounding.{rounded_up, RoundsUp}
 use Rattle.rates.specs.Surcharged.{raised}

@@ -1,5 +1,5 @@
 -- The house surcharge: an amount raised by the percentage of its security.
-use Rattle.std.specs.Prelude.{ℕ, ◌+◌, ◌*◌, ◌≤◌, min, List, Some, None, Option, slice_index}
+use Rattle.std.specs.Prelude.{ℕ, ◌+◌, ◌*◌, min, List, Some, None, Option, slice_index}
 use Rattle.std.proofs.Common.{arith}
 use Rattle.terms.specs.Limits.{ceiling}
 use Rattle.rates.specs.Rounding.{rounded_up}

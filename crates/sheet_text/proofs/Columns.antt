@@ -1,5 +1,5 @@
 -- A column that the automaton takes is `column` of its number, and it takes each such column.
-use Rattle.std.proofs.Common.{◌≡◌, ℕ, zero, suc, ◌+◌, ◌-◌, ◌*◌, ◌/◌, ◌%◌, ◌^◌, ◌<◌, ◌≤◌, true, false, cond, eqb, ltb, ◌⊎◌, List, [], ◌∷◌, ◌++◌, length, take, drop, set, replicate, None, fold, Option, sym, refl, ap, ◌∙◌, subst, ⊎_elim, append_assoc, append-nil, pow-suc, add-one, arith, length-append, length-set, length-take}
+use Rattle.std.proofs.Common.{◌≡◌, ℕ, zero, suc, ◌+◌, ◌-◌, ◌*◌, ◌/◌, ◌%◌, ◌^◌, ◌<◌, ◌≤◌, true, false, cond, eqb, ltb, List, [], ◌∷◌, ◌++◌, length, take, drop, set, replicate, None, fold, Option, sym, refl, ap, ◌∙◌, subst, ⊎_elim, append_assoc, append-nil, pow-suc, add-one, arith, length-append, length-set, length-take}
 use native.Mathlib.Nat.{pow-le-pow_right}
 use lib.ListN.{length-replicate}
 use Rattle.std.proofs.lemmas.List.Sums.{fold_push}

@@ -1,5 +1,5 @@
 -- A buffer that is written from the front: what is written so far, and what the buffer held past it.
-use Rattle.std.proofs.Common.{◌≡◌, ℕ, ◌+◌, ◌-◌, ◌<◌, ◌≤◌, true, false, List, [], ◌∷◌, ◌++◌, length, get_or, take, drop, set, replicate, Some, None, Ok, Err, Option, sym, refl, ap, ◌∙◌, append_assoc, append-nil, arith, length-append}
+use Rattle.std.proofs.Common.{◌≡◌, ℕ, ◌+◌, ◌<◌, ◌≤◌, true, false, List, [], ◌∷◌, ◌++◌, length, get_or, take, drop, set, replicate, Some, None, Ok, Err, Option, sym, refl, ap, ◌∙◌, append_assoc, append-nil, arith, length-append}
 use lib.ListN.{length-replicate}
 use Rattle.sheet_text.proofs.Columns.{length-column}
 use Rattle.std.proofs.lemmas.List.{drop-drop, drop_all, drop_more, take_at, drop_at, set_at, take_all, take_more, flat_map_more}

@@ -1,4 +1,4 @@
-use Rattle.std.proofs.Common.{◌≡◌, ℕ, ◌-◌, length, take, Ok, sym, subst, arith}
+use Rattle.std.proofs.Common.{◌≡◌, ℕ, ◌-◌, length, take, Ok, subst, arith}
 use Rattle.sheet_text.specs.Sheet.{render}
 use Rattle.sheet_text.specs.Writing.{writes}
 use Rattle.desk.proofs.sheets.copy.Goals as goal

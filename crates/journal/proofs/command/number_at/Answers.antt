@@ -1,4 +1,4 @@
-use Rattle.std.proofs.Common.{◌≡◌, sym, ap, ◌∙◌}
+use Rattle.std.proofs.Common.{sym, ap, ◌∙◌}
 use Rattle.journal.specs.Words.{number_of}
 use Rattle.journal.specs.Commands.{placed, number_at}
 use Rattle.journal.proofs.Lines.{word_at}

@@ -1,4 +1,4 @@
-use Rattle.std.proofs.Common.{◌≡◌, ◌<◌, ◌≤◌, length, is_ok, sym, ap, ◌∙◌, arith}
+use Rattle.std.proofs.Common.{◌<◌, ◌≤◌, length, is_ok, sym, ap, ◌∙◌}
 use Rattle.std.proofs.ResultArms.{chosen}
 use Rattle.journal.specs.Words.{texts}
 use Rattle.journal.proofs.Lines.{length-texts, ahead_none, ahead_more, ahead-stop, ahead-all}

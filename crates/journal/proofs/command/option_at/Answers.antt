@@ -1,4 +1,4 @@
-use Rattle.std.proofs.Common.{◌≡◌, Ok, sym, ap, ◌∙◌}
+use Rattle.std.proofs.Common.{Ok, sym, ap, ◌∙◌}
 use Rattle.journal.specs.declared.command.Unreadable.TheVariants.{NotOptionType}
 use Rattle.journal.specs.Commands.{chosen, option_of, option_at}
 use Rattle.journal.proofs.Lines.{word_at}

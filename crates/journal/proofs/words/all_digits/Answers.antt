@@ -1,5 +1,5 @@
 use Rattle.std.proofs.Common.{sym, ◌∙◌}
-use Rattle.std.proofs.lemmas.Bool.{and_left, and_parts}
+use Rattle.std.proofs.lemmas.Bool.{and_left}
 use Rattle.journal.proofs.Digits.{digits_more, digits-end}
 use Rattle.journal.proofs.words.all_digits.Goals as goal
 

@@ -1,4 +1,4 @@
-use Rattle.std.proofs.Common.{◌*◌, ◌≤◌, arith, rules}
+use Rattle.std.proofs.Common.{◌*◌, ◌≤◌, rules}
 use Rattle.rates.specs.Products.{three-le}
 use Rattle.rates.proofs.bands.percent_of.Goals as goal
 

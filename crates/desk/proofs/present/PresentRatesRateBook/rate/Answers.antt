@@ -1,4 +1,4 @@
-use Rattle.std.proofs.Common.{◌≡◌, Some, vec_items, sym, ap, ◌∙◌}
+use Rattle.std.proofs.Common.{Some, vec_items, sym, ap, ◌∙◌}
 use Rattle.desk.specs.Present.{stacked}
 use Rattle.desk.proofs.Stacks.{stacked-none}
 use Rattle.desk.proofs.present.PresentRatesRateBook.rate.Goals as goal

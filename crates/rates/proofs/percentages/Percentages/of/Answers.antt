@@ -1,4 +1,4 @@
-use Rattle.std.proofs.Common.{sym, arith}
+use Rattle.std.proofs.Common.{arith}
 use Rattle.rates.proofs.Fair.{fair-at}
 use Rattle.rates.proofs.percentages.Percentages.of.Goals as goal
 
