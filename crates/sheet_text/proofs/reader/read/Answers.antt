@@ -7,7 +7,7 @@ use Rattle.sheet_text.proofs.Readings.{told-all}
 use Rattle.sheet_text.proofs.Scans.{read_done}
 use Rattle.sheet_text.proofs.reader.read.Goals as goal
 
-pub returns-then-not-contains : goal.returns-then-not-is_day
+pub returns-then-not-contains : goal.returns-then-not-contains
 returns-then-not-contains c =
     let x : ReadIs c.args.day c.args.text.now c.args.list.now c.args.list.now (Err DayOutsideLimits) = search rules in
     let l = told-all c.args.day c.args.text.now c.args.list.now c.args.list.now (Err DayOutsideLimits) refl x in
