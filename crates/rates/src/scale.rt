@@ -5,7 +5,7 @@ ghost use Rattle.rates.specs.Ceilings.{scale-capped};
 
 use crate::bands::floor;
 use crate::rate_book::{Quote, RateBook};
-use terms::limits;
+use terms::limits::{HasLimits, LotSize, Premium, Price};
 
 /// The exchange's scale: twice the premium, and no less than a floor by how far the strike lies from the closing price.
 #[derive(Clone, Copy)]
@@ -14,10 +14,10 @@ pub struct Scale;
 fn is_admitted(quote: &Quote) -> bool
     ensures { result ≡ is_admitted quote.now }
 {
-    limits::is_price(quote.strike)
-        && limits::is_premium(quote.premium)
-        && limits::is_price(quote.close)
-        && limits::is_lot_size(quote.lot)
+    Price::contains(quote.strike)
+        && Premium::contains(quote.premium)
+        && Price::contains(quote.close)
+        && LotSize::contains(quote.lot)
 }
 
 impl RateBook for Scale {

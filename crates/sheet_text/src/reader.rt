@@ -10,7 +10,7 @@ ghost use Rattle.sheet_text.specs.Told.{Told};
 use crate::fault::TextFault;
 use crate::fields::{is_blank, parse_field};
 use crate::records::{Count, Legs, RECORD, Record, record_of};
-use terms::limits::{MAX_LINES, is_day};
+use terms::limits::{Day, HasLimits, MAX_LINES};
 use terms::strategy::{Kind, Leg, Line};
 
 const UNUSED: Leg = Leg { row: 0, lots: 0 };
@@ -180,7 +180,7 @@ pub fn read(text: &[u8], day: u64, list: &mut [Line]) -> Result<usize, TextFault
     ensures again { Again day text.now list.new result }
     ensures told { Told day text.now list.old result }
 {
-    if !is_day(day) {
+    if !Day::contains(day) {
         return Err(TextFault::DayOutsideLimits);
     }
     let room = room_in(list.len());

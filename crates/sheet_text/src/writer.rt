@@ -9,7 +9,7 @@ use crate::fault::TextFault;
 use crate::fields::put_field;
 use crate::letters::letter_of;
 use crate::records::{LINE_FEED, RECORD};
-use terms::limits::{MAX_LINES, is_day};
+use terms::limits::{Day, HasLimits, MAX_LINES};
 use terms::strategy::{Leg, Line};
 
 /// The most that a leg's columns can show.
@@ -108,7 +108,7 @@ fn bytes_for(day: u64, lines: &[Line], room: usize) -> Result<usize, TextFault>
     ensures answer { result ≡ writes day lines.now room }
     ensures told { Judged day lines.now room result }
 {
-    if !is_day(day) {
+    if !Day::contains(day) {
         return Err(TextFault::DayOutsideLimits);
     }
     fits(lines)?;

@@ -1,4 +1,5 @@
 pub mod Holdings
 pub mod Limits
+pub mod Listings
 pub mod Sides
 pub mod Texts

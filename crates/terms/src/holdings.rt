@@ -1,19 +1,20 @@
 // What a book lists: securities, and rows of deposits, option series and term operations.
 ghost use Rattle.std.specs.Prelude.{◌≡◌};
-ghost use Rattle.terms.specs.Holdings.{strike_of, contract_last_day, is_over, has_ended, closed, same_type, same_contract, same_row};
+ghost use Rattle.terms.specs.Holdings.{strike_of, contract_last_day, is_over, has_ended, closed, same_contract, same_row};
 
 use crate::OptionType;
 
 /// Which of the exchange's lists a security is in: class 1 is list B, 2 is list A, 3 is every other.
-#[derive(Clone, Copy, PartialEq, Eq, Debug)]
+#[derive(Clone, Copy, PartialEq, Eq, Debug, Default)]
 pub enum Class {
     ListB,
     ListA,
+    #[default]
     Other,
 }
 
-/// A security, with how many of it a lot has and its closing price.
-#[derive(Clone, Copy)]
+/// A security, with how many of it a lot has and its closing price; the default one has neither, and is in no list.
+#[derive(Clone, Copy, Default)]
 pub struct Security {
     pub class: Class,
     pub lot_size: u32,
@@ -38,28 +39,20 @@ pub struct TermOperation {
 }
 
 /// What the lots of a row are lots of.
-#[derive(Clone, Copy)]
+#[derive(Clone, Copy, Default)]
 pub enum Contract {
+    #[default]
     Deposit,
     Series(Series),
     Term(TermOperation),
 }
 
-/// A row: a contract on a security, and its net, the lots bought less the lots sold.
-#[derive(Clone, Copy)]
+/// A row: a contract on a security, and its net, the lots bought less the lots sold; the default one is a deposit without lots.
+#[derive(Clone, Copy, Default)]
 pub struct Row {
     pub security: usize,
     pub contract: Contract,
     pub net: i32,
-}
-
-fn is_same_type(a: OptionType, b: OptionType) -> bool
-    ensures { result ≡ same_type a b }
-{
-    match (a, b) {
-        (OptionType::Call, OptionType::Call) | (OptionType::Put, OptionType::Put) => true,
-        _ => false,
-    }
 }
 
 impl Contract {
@@ -88,20 +81,14 @@ impl Contract {
     pub fn is_over(self, day: u32) -> bool
         ensures { result ≡ is_over (contract_last_day self) day }
     {
-        match self.last_day() {
-            Some(last) => last <= day,
-            None => false,
-        }
+        self.last_day().is_some_and(|last| last <= day)
     }
 
     /// Whether the last day is before the day.
     pub fn has_ended(self, day: u32) -> bool
         ensures { result ≡ has_ended (contract_last_day self) day }
     {
-        match self.last_day() {
-            Some(last) => last < day,
-            None => false,
-        }
+        self.last_day().is_some_and(|last| last < day)
     }
 
     /// Whether two series, or two term operations, are equal; premium and guarantee are not compared.
@@ -110,7 +97,7 @@ impl Contract {
     {
         match (self, other) {
             (Contract::Series(a), Contract::Series(b)) => {
-                is_same_type(a.option, b.option) && a.strike == b.strike && a.last_day == b.last_day
+                a.option == b.option && a.strike == b.strike && a.last_day == b.last_day
             }
             (Contract::Term(a), Contract::Term(b)) => a.price == b.price
                 && a.last_day == b.last_day,

@@ -4,7 +4,7 @@
 pub mod denial;
 pub mod holdings;
 pub mod limits;
-pub mod places;
+pub mod listings;
 pub mod stage;
 pub mod strategy;
 

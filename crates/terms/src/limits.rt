@@ -1,5 +1,5 @@
 // The limits of a book's figures. Money is in centavos.
-ghost use Rattle.std.specs.Prelude.{◌≡◌};
+ghost use Rattle.std.specs.Prelude.{◌≡◌, ◌^◌, ◌<◌, ℕ, Bool, IsTrue};
 ghost use Rattle.terms.specs.Limits.{is_day, is_price, is_premium, is_lot_size, is_book_number, is_guarantee, limited};
 
 /// The most that a strike, a closing price, a term price or a premium can be.
@@ -29,92 +29,82 @@ pub const MAX_BOOK_NUMBER: u64 = 65_535;
 /// The most lots that a net can have, either way.
 pub const MAX_NET: i128 = 10_000;
 
-/// Whether a day is within its limits.
-pub fn is_day(day: u64) -> bool
-    ensures { result ≡ is_day day }
-{
-    (1..=MAX_DAY).contains(&day)
+/// A figure that has limits.
+pub trait HasLimits {
+    // which numbers lie within them
+    ghost within: { ℕ → Bool };
+
+    /// Whether a number lies within them; one that does has 32 bits.
+    fn contains(n: u64) -> bool
+        ensures within { result ≡ within n }
+        ensures narrow { IsTrue result → n < 2 ^ 32 };
 }
 
-/// Whether a strike, a closing price or a term price is within its limits.
-pub fn is_price(amount: u64) -> bool
-    ensures { result ≡ is_price amount }
+/// A number, where it lies within the limits of a figure.
+pub fn limited<F: HasLimits>(n: u64) -> Option<u32>
+    ensures { result ≡ limited F.within n }
 {
-    (1..=MAX_PRICE).contains(&amount)
+    F::contains(n).then(|| n as u32)
 }
 
-/// Whether a premium is within its limits; 0 says that the series did not trade.
-pub fn is_premium(amount: u64) -> bool
-    ensures { result ≡ is_premium amount }
-{
-    amount <= MAX_PRICE
-}
+/// A book's number.
+pub struct BookNumber;
 
-/// Whether a lot size is within its limits.
-pub fn is_lot_size(size: u64) -> bool
-    ensures { result ≡ is_lot_size size }
-{
-    (1..=MAX_LOT_SIZE).contains(&size)
-}
+/// A day.
+pub struct Day;
 
-/// A book's number, where it is within its limits.
-pub fn book_number(number: u64) -> Option<u32>
-    ensures { result ≡ limited is_book_number number }
-{
-    if number <= MAX_BOOK_NUMBER {
-        Some(number as u32)
-    } else {
-        None
+/// A strike, a closing price or a term price.
+pub struct Price;
+
+/// A premium; 0 says that the series did not trade.
+pub struct Premium;
+
+/// A lot size.
+pub struct LotSize;
+
+impl HasLimits for BookNumber {
+    ghost within = { is_book_number };
+
+    fn contains(number: u64) -> bool {
+        number <= MAX_BOOK_NUMBER
     }
 }
 
-/// A day, where it is within its limits.
-pub fn day(day: u64) -> Option<u32>
-    ensures { result ≡ limited is_day day }
-{
-    if is_day(day) { Some(day as u32) } else { None }
-}
+impl HasLimits for Day {
+    ghost within = { is_day };
 
-/// A strike, a closing price or a term price, where it is within its limits.
-pub fn price(amount: u64) -> Option<u32>
-    ensures { result ≡ limited is_price amount }
-{
-    if is_price(amount) {
-        Some(amount as u32)
-    } else {
-        None
+    fn contains(day: u64) -> bool {
+        (1..=MAX_DAY).contains(&day)
     }
 }
 
-/// A premium, where it is within its limits.
-pub fn premium(amount: u64) -> Option<u32>
-    ensures { result ≡ limited is_premium amount }
-{
-    if is_premium(amount) {
-        Some(amount as u32)
-    } else {
-        None
+impl HasLimits for Price {
+    ghost within = { is_price };
+
+    fn contains(amount: u64) -> bool {
+        (1..=MAX_PRICE).contains(&amount)
     }
 }
 
-/// A lot size, where it is within its limits.
-pub fn lot_size(size: u64) -> Option<u32>
-    ensures { result ≡ limited is_lot_size size }
-{
-    if is_lot_size(size) {
-        Some(size as u32)
-    } else {
-        None
+impl HasLimits for Premium {
+    ghost within = { is_premium };
+
+    fn contains(amount: u64) -> bool {
+        amount <= MAX_PRICE
     }
 }
 
-/// A term operation's guarantee per lot, where it is within its limits.
+impl HasLimits for LotSize {
+    ghost within = { is_lot_size };
+
+    fn contains(size: u64) -> bool {
+        (1..=MAX_LOT_SIZE).contains(&size)
+    }
+}
+
+/// A term operation's guarantee per lot, where it is within its limits; it has 64 bits, as no other figure has.
 pub fn guarantee(amount: u64) -> Option<u64>
     ensures { result ≡ limited is_guarantee amount }
 {
-    if amount <= CEILING {
-        Some(amount)
-    } else {
-        None
-    }
+    (amount <= CEILING).then_some(amount)
 }

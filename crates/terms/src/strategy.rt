@@ -3,8 +3,9 @@ ghost use Rattle.std.specs.Prelude.{◌≡◌};
 ghost use Rattle.terms.specs.Sides.{writes};
 
 /// What a strategy is.
-#[derive(Clone, Copy)]
+#[derive(Clone, Copy, Default)]
 pub enum Kind {
+    #[default]
     Opposed,
     BoughtButterfly,
     SoldButterfly,
@@ -29,14 +30,14 @@ impl Kind {
 }
 
 /// So many lots of a row; 0 lots say that the leg is not used.
-#[derive(Clone, Copy)]
+#[derive(Clone, Copy, Default)]
 pub struct Leg {
     pub row: u32,
     pub lots: u32,
 }
 
-/// A strategy line: its kind and its four legs.
-#[derive(Clone, Copy)]
+/// A strategy line: its kind and its four legs; the default one, of unused legs, stands where a list has no line yet.
+#[derive(Clone, Copy, Default)]
 pub struct Line {
     pub kind: Kind,
     pub legs: [Leg; 4],

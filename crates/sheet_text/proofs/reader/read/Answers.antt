@@ -7,8 +7,8 @@ use Rattle.sheet_text.proofs.Readings.{told-all}
 use Rattle.sheet_text.proofs.Scans.{read_done}
 use Rattle.sheet_text.proofs.reader.read.Goals as goal
 
-pub returns-then-not-is_day : goal.returns-then-not-is_day
-returns-then-not-is_day c =
+pub returns-then-not-contains : goal.returns-then-not-contains
+returns-then-not-contains c =
     let x : ReadIs c.args.day c.args.text.now c.args.list.now c.args.list.now (Err DayOutsideLimits) = search rules in
     let l = told-all c.args.day c.args.text.now c.args.list.now c.args.list.now (Err DayOutsideLimits) refl x in
     record { exact = x; accepted = l.0; refused = l.1; again = l.2; told = l.3 }

@@ -1,0 +1,45 @@
+// What a book lists, read by row number.
+ghost use Rattle.std.specs.Prelude.{◌≡◌};
+ghost use Rattle.terms.specs.Listings.{row_at, contract_at, security_at, class_at};
+
+use crate::holdings::{Class, Contract, Row, Security};
+
+/// The securities and the rows of a book, by number.
+#[derive(Clone, Copy)]
+pub struct Listings<'a> {
+    pub securities: &'a [Security],
+    pub rows: &'a [Row],
+}
+
+impl Listings<'_> {
+    /// The row of a number; a deposit without lots where there is none.
+    pub fn row(self, row: u32) -> Row
+        ensures { result ≡ row_at self.entry.rows.now row }
+    {
+        self.rows.get(row as usize).copied().unwrap_or_default()
+    }
+
+    /// The contract of a row.
+    pub fn contract(self, row: u32) -> Contract
+        ensures { result ≡ contract_at self.entry.rows.now row }
+    {
+        self.row(row).contract
+    }
+
+    /// The security of a row; one of class 3 without a lot or a price where there is none.
+    pub fn security(self, row: u32) -> Security
+        ensures { result ≡ security_at self.entry.securities.now self.entry.rows.now row }
+    {
+        self.securities
+            .get(self.row(row).security)
+            .copied()
+            .unwrap_or_default()
+    }
+
+    /// The class of a row's security.
+    pub fn class(self, row: u32) -> Class
+        ensures { result ≡ class_at self.entry.securities.now self.entry.rows.now row }
+    {
+        self.security(row).class
+    }
+}
