@@ -1,5 +1,6 @@
 -- The guarantee of a strategy line. Here L is the lot size and n the lots of leg 0; a difference that would be negative is 0.
 use Rattle.std.specs.Prelude.{ℕ, ◌+◌, ◌-◌, ◌*◌, min, max, List, Option}
+use Rattle.std.specs.Option.{unwrap_or}
 use Rattle.terms.specs.declared.OptionType.{OptionType}
 use Rattle.terms.specs.declared.OptionType.TheVariants.{Call, Put}
 use Rattle.terms.specs.declared.holdings.Class.{Class}
@@ -13,7 +14,8 @@ use Rattle.terms.specs.declared.strategy.Line.{Line}
 use Rattle.rates.specs.declared.rate_book.Quote.{Quote}
 use Rattle.terms.specs.Holdings.{strike_of}
 use Rattle.terms.specs.Sides.{leg_at}
-use Rattle.charges.specs.Figures.{price_of, guarantee_of, type_of, contract_at, security_at, class_at, rate_at, amount}
+use Rattle.terms.specs.Listings.{contract_at, security_at, class_at}
+use Rattle.charges.specs.Figures.{price_of, guarantee_of, type_of, rate_at}
 
 -- what a held strike leaves of the risk of a written one: held less written for calls, written less held for puts
 abbrev pub difference : OptionType → ℕ → ℕ → ℕ
@@ -42,7 +44,7 @@ opposed_by Other sum whole = sum
 abbrev pub opposed : (Quote → Option ℕ) → List Security → List Row → Line → ℕ
 opposed table securities rows line =
     opposed_by (class_at securities rows (leg_at line.legs 0).row) (opposed_sum securities rows line)
-    ((leg_at line.legs 0).lots * amount (rate_at table securities rows (leg_at line.legs 0).row))
+    ((leg_at line.legs 0).lots * unwrap_or (rate_at table securities rows (leg_at line.legs 0).row) 0)
 
 -- sold butterfly: (E2 − E1) × L × n
 abbrev pub sold_butterfly : List Security → List Row → Line → ℕ
@@ -53,7 +55,7 @@ sold_butterfly securities rows line =
 -- sold cone: n × the larger of the two rates
 abbrev pub sold_cone : (Quote → Option ℕ) → List Security → List Row → Line → ℕ
 sold_cone table securities rows line =
-    (leg_at line.legs 0).lots * max (amount (rate_at table securities rows (leg_at line.legs 0).row)) (amount (rate_at table securities rows (leg_at line.legs 1).row))
+    (leg_at line.legs 0).lots * max (unwrap_or (rate_at table securities rows (leg_at line.legs 0).row) 0) (unwrap_or (rate_at table securities rows (leg_at line.legs 1).row) 0)
 
 -- term purchase, at term price T and strike S: n × the term guarantee, or (T − S) × L × n where that is larger
 abbrev pub term_purchase : List Security → List Row → Line → ℕ

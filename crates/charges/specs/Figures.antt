@@ -1,14 +1,13 @@
 -- The figures that a guarantee is worked out from, by row number.
-use Rattle.std.specs.Prelude.{ℕ, List, get_or, Some, None, Option, slice_index_or}
+use Rattle.std.specs.Prelude.{ℕ, List, None, Option}
 use Rattle.terms.specs.declared.OptionType.{OptionType}
 use Rattle.terms.specs.declared.OptionType.TheVariants.{Call}
-use Rattle.terms.specs.declared.holdings.Class.{Class}
 use Rattle.terms.specs.declared.holdings.Security.{Security}
 use Rattle.terms.specs.declared.holdings.Series as series
 use Rattle.terms.specs.declared.holdings.Contract.{Contract}
 use Rattle.terms.specs.declared.holdings.Contract.TheVariants.{Deposit, Series, Term}
 use Rattle.terms.specs.declared.holdings.Row.{Row}
-use Rattle.terms.specs.Holdings.{no_security, no_row}
+use Rattle.terms.specs.Listings.{row_at, contract_at, security_at}
 use Rattle.rates.specs.declared.rate_book.Quote.{Quote}
 
 -- the price of a term operation; 0 of any other contract
@@ -29,18 +28,6 @@ type_of Deposit = Call
 type_of (Series series) = series.option
 type_of (Term term) = Call
 
--- the contract of a row
-abbrev pub contract_at : List Row → ℕ → Contract
-contract_at rows i = (get_or rows i no_row).contract
-
--- the security of a row
-abbrev pub security_at : List Security → List Row → ℕ → Security
-security_at securities rows i = slice_index_or securities (get_or rows i no_row).security no_security
-
--- the class of a row's security
-abbrev pub class_at : List Security → List Row → ℕ → Class
-class_at securities rows i = (security_at securities rows i).class
-
 -- what a rate book is asked for a series in a row
 abbrev pub quote_for : ℕ → ℕ → series.Series → Security → Quote
 quote_for i number series security = record {
@@ -60,9 +47,4 @@ rate_by table i number security (Series series) = table (quote_for i number seri
 rate_by table i number security (Term term) = None
 
 abbrev pub rate_at : (Quote → Option ℕ) → List Security → List Row → ℕ → Option ℕ
-rate_at table securities rows i = rate_by table i (get_or rows i no_row).security (security_at securities rows i) (contract_at rows i)
-
--- an amount, and 0 where there is none
-abbrev pub amount : Option ℕ → ℕ
-amount None = 0
-amount (Some a) = a
+rate_at table securities rows i = rate_by table i (row_at rows i).security (security_at securities rows i) (contract_at rows i)

@@ -1,22 +1,17 @@
 // What each kind of strategy asks in guarantee.
 ghost use Rattle.std.specs.Prelude.{◌≡◌, ◌*◌, ◌^◌, ◌<◌};
-ghost use Rattle.charges.specs.Figures.{rate_at, amount};
-ghost use Rattle.charges.specs.Charges.{difference, opposed_leg, opposed_sum, opposed, sold_butterfly, sold_cone, term_purchase, term_sale, charge};
+ghost use Rattle.std.specs.Option.{unwrap_or};
+ghost use Rattle.terms.specs.Listings.{contract_at, security_at};
+ghost use Rattle.terms.specs.Sides.{leg_at};
+ghost use Rattle.charges.specs.Figures.{rate_at};
+ghost use Rattle.charges.specs.Charges.{difference, opposed_leg, opposed, sold_butterfly, term_purchase, term_sale, charge};
 
-use crate::figures::{
-    class_at, contract_at, guarantee_of, price_of, rate_at, security_at, type_of,
-};
+use crate::figures::{rate_at, term_of, type_of};
 use rates::rate_book::RateBook;
 use terms::OptionType;
-use terms::holdings::{Class, Row, Security};
+use terms::holdings::{Class, Contract};
+use terms::listings::Listings;
 use terms::strategy::{Kind, Leg, Line};
-
-fn product(difference: u32, lot_size: u32, lots: u32) -> u128
-    ensures value { result ≡ difference * lot_size * lots }
-    ensures bound { result < 2 ^ 96 }
-{
-    u128::from(difference) * u128::from(lot_size) * u128::from(lots)
-}
 
 /// So much for each of some lots.
 fn per_lot(lots: u32, each: u64) -> u128
@@ -36,124 +31,111 @@ fn difference(option: OptionType, written: u32, held: u32) -> u32
     }
 }
 
-/// What one held leg of an opposed line asks.
-fn opposed_leg(securities: &[Security], rows: &[Row], written: Leg, held: Leg) -> u128
-    ensures value { result ≡ opposed_leg securities.now rows.now written held }
-    ensures bound { result < 2 ^ 96 }
-{
-    let contract = contract_at(rows, written.row);
-    let strike = contract_at(rows, held.row).strike();
-    let security = security_at(securities, rows, written.row);
-    product(
-        difference(type_of(contract), contract.strike(), strike),
-        security.lot_size,
-        held.lots,
-    )
+/// A strategy line, and the listings that its rows are in.
+#[derive(Clone, Copy)]
+struct ListedLine<'a> {
+    listings: Listings<'a>,
+    line: &'a Line,
 }
 
-/// The rate of a row, and 0 where it has none.
-fn at_rate<R: RateBook>(rates: &mut R, securities: &[Security], rows: &[Row], row: u32) -> u64
-    ensures value { result ≡ amount (rate_at (R.RateBook.table rates.old) securities.now rows.now row) }
-    ensures kept { R.RateBook.table rates.new ≡ R.RateBook.table rates.old }
-{
-    rate_at(rates, securities, rows, row).unwrap_or(0)
-}
+impl ListedLine<'_> {
+    /// The contract of a leg.
+    fn contract(self, leg: usize) -> Contract
+        requires { leg < 4 }
+        ensures { result ≡ contract_at self.entry.listings.rows.now (leg_at self.entry.line.now.legs leg).row }
+    {
+        self.listings.contract(self.line.legs[leg].row)
+    }
 
-/// The sum over the held legs of an opposed line.
-fn opposed_sum(securities: &[Security], rows: &[Row], line: &Line) -> u128
-    ensures value { result ≡ opposed_sum securities.now rows.now line.now }
-    ensures bound { result < 2 ^ 98 }
-{
-    opposed_leg(securities, rows, line.legs[0], line.legs[1])
-        + opposed_leg(securities, rows, line.legs[0], line.legs[2])
-        + opposed_leg(securities, rows, line.legs[0], line.legs[3])
-}
+    /// What a difference in price comes to in one lot of leg 0.
+    fn of_lot(self, difference: u32) -> u64
+        ensures { result ≡ difference * (security_at self.entry.listings.securities.now self.entry.listings.rows.now (leg_at self.entry.line.now.legs 0).row).lot_size }
+    {
+        let security = self.listings.security(self.line.legs[0].row);
+        u64::from(difference) * u64::from(security.lot_size)
+    }
 
-fn opposed<R: RateBook>(rates: &mut R, securities: &[Security], rows: &[Row], line: &Line) -> u128
-    ensures value { result ≡ opposed (R.RateBook.table rates.old) securities.now rows.now line.now }
-    ensures kept { R.RateBook.table rates.new ≡ R.RateBook.table rates.old }
-    ensures bound { result < 2 ^ 98 }
-{
-    let sum = opposed_sum(securities, rows, line);
-    let leg = line.legs[0];
-    match class_at(securities, rows, leg.row) {
-        Class::ListB => sum.min(per_lot(leg.lots, at_rate(rates, securities, rows, leg.row))),
-        Class::ListA | Class::Other => sum,
+    /// What a held leg of an opposed line asks.
+    fn opposed_leg(self, held: Leg) -> u128
+        ensures value { result ≡ opposed_leg self.entry.listings.securities.now self.entry.listings.rows.now (leg_at self.entry.line.now.legs 0) held }
+        ensures bound { result < 2 ^ 96 }
+    {
+        let written = self.contract(0);
+        let strike = self.listings.contract(held.row).strike();
+        let left = difference(type_of(written), written.strike(), strike);
+        per_lot(held.lots, self.of_lot(left))
+    }
+
+    /// What each lot of a sold butterfly asks.
+    fn sold_butterfly(self) -> u64
+        ensures { (leg_at self.entry.line.now.legs 0).lots * result ≡ sold_butterfly self.entry.listings.securities.now self.entry.listings.rows.now self.entry.line.now }
+    {
+        let low = self.contract(0).strike();
+        let middle = self.contract(1).strike();
+        self.of_lot(middle.saturating_sub(low))
+    }
+
+    /// What each lot of a term purchase asks.
+    #[tactic(auto, using(crate::proofs::Times::mul_max))]
+    fn term_purchase(self) -> u64
+        ensures { (leg_at self.entry.line.now.legs 0).lots * result ≡ term_purchase self.entry.listings.securities.now self.entry.listings.rows.now self.entry.line.now }
+    {
+        let strike = self.contract(0).strike();
+        let term = term_of(self.contract(1));
+        let spread = self.of_lot(term.price.saturating_sub(strike));
+        term.guarantee.max(spread)
+    }
+
+    /// What each lot of a term sale asks.
+    fn term_sale(self) -> u64
+        ensures { (leg_at self.entry.line.now.legs 0).lots * result ≡ term_sale self.entry.listings.securities.now self.entry.listings.rows.now self.entry.line.now }
+    {
+        let strike = self.contract(0).strike();
+        let term = term_of(self.contract(1));
+        let spread = self.of_lot(strike.saturating_sub(term.price));
+        spread.min(term.guarantee)
+    }
+
+    /// The rate of a leg's row, and 0 where it has none.
+    // Stays: each function that asks a rate book says that its table is kept, since no type says what a `&mut` leaves the same.
+    fn rate<R: RateBook>(self, rates: &mut R, leg: usize) -> u64
+        requires { leg < 4 }
+        ensures value { result ≡ unwrap_or (rate_at (R.RateBook.table rates.old) self.entry.listings.securities.now self.entry.listings.rows.now (leg_at self.entry.line.now.legs leg).row) 0 }
+        ensures kept { R.RateBook.table rates.new ≡ R.RateBook.table rates.old }
+    {
+        rate_at(rates, self.listings, self.line.legs[leg].row).unwrap_or(0)
+    }
+
+    /// What an opposed line asks.
+    fn opposed<R: RateBook>(self, rates: &mut R) -> u128
+        ensures value { result ≡ opposed (R.RateBook.table rates.old) self.entry.listings.securities.now self.entry.listings.rows.now self.entry.line.now }
+        ensures kept { R.RateBook.table rates.new ≡ R.RateBook.table rates.old }
+        ensures bound { result < 2 ^ 98 }
+    {
+        let legs = self.line.legs;
+        // Stays: of a chain's sum the value was proved, and the bound was not.
+        let sum = self.opposed_leg(legs[1]) + self.opposed_leg(legs[2]) + self.opposed_leg(legs[3]);
+        match self.listings.class(legs[0].row) {
+            Class::ListB => sum.min(per_lot(legs[0].lots, self.rate(rates, 0))),
+            Class::ListA | Class::Other => sum,
+        }
     }
 }
 
-fn sold_butterfly(securities: &[Security], rows: &[Row], line: &Line) -> u128
-    ensures value { result ≡ sold_butterfly securities.now rows.now line.now }
-    ensures bound { result < 2 ^ 98 }
-{
-    let low = contract_at(rows, line.legs[0].row).strike();
-    let middle = contract_at(rows, line.legs[1].row).strike();
-    let security = security_at(securities, rows, line.legs[0].row);
-    product(
-        middle.saturating_sub(low),
-        security.lot_size,
-        line.legs[0].lots,
-    )
-}
-
-fn sold_cone<R: RateBook>(rates: &mut R, securities: &[Security], rows: &[Row], line: &Line) -> u128
-    ensures value { result ≡ sold_cone (R.RateBook.table rates.old) securities.now rows.now line.now }
-    ensures kept { R.RateBook.table rates.new ≡ R.RateBook.table rates.old }
-    ensures bound { result < 2 ^ 98 }
-{
-    let call = at_rate(rates, securities, rows, line.legs[0].row);
-    let put = at_rate(rates, securities, rows, line.legs[1].row);
-    per_lot(line.legs[0].lots, call.max(put))
-}
-
-fn term_purchase(securities: &[Security], rows: &[Row], line: &Line) -> u128
-    ensures value { result ≡ term_purchase securities.now rows.now line.now }
-    ensures bound { result < 2 ^ 98 }
-{
-    let strike = contract_at(rows, line.legs[0].row).strike();
-    let term = contract_at(rows, line.legs[1].row);
-    let security = security_at(securities, rows, line.legs[0].row);
-    let lots = line.legs[0].lots;
-    per_lot(lots, guarantee_of(term)).max(product(
-        price_of(term).saturating_sub(strike),
-        security.lot_size,
-        lots,
-    ))
-}
-
-fn term_sale(securities: &[Security], rows: &[Row], line: &Line) -> u128
-    ensures value { result ≡ term_sale securities.now rows.now line.now }
-    ensures bound { result < 2 ^ 98 }
-{
-    let strike = contract_at(rows, line.legs[0].row).strike();
-    let term = contract_at(rows, line.legs[1].row);
-    let security = security_at(securities, rows, line.legs[0].row);
-    let lots = line.legs[0].lots;
-    product(
-        strike.saturating_sub(price_of(term)),
-        security.lot_size,
-        lots,
-    )
-    .min(per_lot(lots, guarantee_of(term)))
-}
-
 /// The guarantee of a strategy line, in centavos.
-pub fn charge<R: RateBook>(
-    rates: &mut R,
-    securities: &[Security],
-    rows: &[Row],
-    line: &Line,
-) -> u128
-    ensures value { result ≡ charge (R.RateBook.table rates.old) securities.now rows.now line.now }
+pub fn charge<R: RateBook>(rates: &mut R, listings: Listings<'_>, line: &Line) -> u128
+    ensures value { result ≡ charge (R.RateBook.table rates.old) listings.entry.securities.now listings.entry.rows.now line.now }
     ensures kept { R.RateBook.table rates.new ≡ R.RateBook.table rates.old }
     ensures bound { result < 2 ^ 98 }
 {
+    let listed = ListedLine { listings, line };
+    let lots = line.legs[0].lots;
     match line.kind {
         Kind::BoughtButterfly | Kind::Covered => 0,
-        Kind::Opposed => opposed(rates, securities, rows, line),
-        Kind::SoldButterfly => sold_butterfly(securities, rows, line),
-        Kind::SoldCone => sold_cone(rates, securities, rows, line),
-        Kind::TermPurchase => term_purchase(securities, rows, line),
-        Kind::TermSale => term_sale(securities, rows, line),
+        Kind::Opposed => listed.opposed(rates),
+        Kind::SoldButterfly => per_lot(lots, listed.sold_butterfly()),
+        Kind::SoldCone => per_lot(lots, listed.rate(rates, 0).max(listed.rate(rates, 1))),
+        Kind::TermPurchase => per_lot(lots, listed.term_purchase()),
+        Kind::TermSale => per_lot(lots, listed.term_sale()),
     }
 }
