@@ -14,11 +14,7 @@ pub(crate) fn term_of(contract: Contract) -> TermOperation
 {
     match contract {
         Contract::Term(term) => term,
-        _ => TermOperation {
-            price: 0,
-            last_day: 0,
-            guarantee: 0,
-        },
+        _ => TermOperation::default(),
     }
 }
 

@@ -30,8 +30,8 @@ pub struct Series {
     pub premium: u32,
 }
 
-/// A term operation, with its guarantee per lot.
-#[derive(Clone, Copy)]
+/// A term operation, with its guarantee per lot; the default one has no price and no guarantee.
+#[derive(Clone, Copy, Default)]
 pub struct TermOperation {
     pub price: u32,
     pub last_day: u32,
