@@ -1,3 +1,3 @@
-mod Fronts
 mod Spared
+mod Tallies
 pub mod Withouts

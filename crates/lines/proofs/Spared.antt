@@ -1,24 +1,22 @@
--- Lines spared in place, line by line.
-use Rattle.std.proofs.Common.{◌≡◌, ℕ, ◌+◌, ◌<◌, ◌≤◌, Bool, true, false, cond, List, [], ◌∷◌, ◌++◌, length, get_or, take, drop, set, filter, sym, ap, ◌∙◌, ap₂, append_assoc, arith}
-use Rattle.std.proofs.lemmas.List.{at_drop_more, at_drop_all, take_more_set, drop-set-lt, append-nil}
+-- What `retain` keeps, where its closure lets so many elements pass first.
+use Rattle.std.proofs.Common.{◌≡◌, ℕ, zero, suc, ◌-◌, Bool, true, cond, ◌||◌, ltb, List, [], ◌∷◌, ◌++◌, take, drop, filter, subst, ap, ◌∙◌, arith}
+use Rattle.std.proofs.lemmas.Bool.{lt-ltb}
+use Rattle.std.specs.List.Retain.{RetainsInTurn}
 
-module _ {X : Type 0} (p : X → Bool) (ys : List X) (i : ℕ) (x : X) (lt : i < length ys) (is : x ≡ get_or ys i x) where
-  head-kept : filter p (drop i ys) ≡ cond (p x) (x ∷ filter p (drop (i + 1) ys)) (filter p (drop (i + 1) ys))
-  head-kept =
-      at_drop_more (filter p) ys i x lt ∙ ap (λ y. cond (p y) (y ∷ filter p (drop (i + 1) ys)) (filter p (drop (i + 1) ys))) (sym is)
-
-  -- the line goes
-  pub spared-no : (k : ℕ) → p x ≡ false → take k ys ++ filter p (drop (i + 1) ys) ≡ take k ys ++ filter p (drop i ys)
-  spared-no k e = ap (λ zs. take k ys ++ zs) (sym (head-kept ∙ ap (λ b. cond b (x ∷ filter p (drop (i + 1) ys)) (filter p (drop (i + 1) ys))) e))
-
-  -- the line stays, and is moved to place k
-  pub spared-yes : (k : ℕ) → k ≤ i → p x ≡ true → take (k + 1) (set ys k x) ++ filter p (drop (i + 1) (set ys k x)) ≡ take k ys ++ filter p (drop i ys)
-  spared-yes k le e =
-      let rest = filter p (drop (i + 1) ys) in
-      ap₂ (λ front back. front ++ filter p back) (take_more_set ys k x (omega arith)) (drop-set-lt (i + 1) ys k x (omega arith))
-      ∙ (append_assoc (take k ys) (x ∷ []) rest
-      ∙ ap (λ zs. take k ys ++ zs) (sym (head-kept ∙ ap (λ b. cond b (x ∷ rest) rest) e)))
-
--- no line is left to look at
-pub spared-all : {X : Type 0} (p : X → Bool) (ys : List X) (k i : ℕ) → length ys ≤ i → take k ys ++ filter p (drop i ys) ≡ take k ys
-spared-all p ys k i h = ap (λ zs. take k ys ++ zs) (at_drop_all (filter p) ys i h) ∙ append-nil (take k ys)
+module _ {X F : Type 0} (R : F → X → Bool → F → X → Type 0) (test : X → Bool) (state : ℕ → F)
+    (says : (n : ℕ) (x : X) (b : Bool) (f : F) (y : X) → R (state n) x b f y → (b ≡ (ltb 0 n || test x)) × (f ≡ state (n - 1)) × (y ≡ x)) where
+  pub kept_from : (n : ℕ) (xs ys : List X) → RetainsInTurn R (state n) xs ys → ys ≡ take n xs ++ filter test (drop n xs)
+  kept_from zero [] ys h = h
+  kept_from (suc n) [] ys h = h
+  kept_from zero (x ∷ xs) ys h =
+      let said = says zero x h.0 h.1 h.2 h.3 in
+      let later = subst (λ g. RetainsInTurn R g xs h.4) said.1 h.5 in
+      let rest = kept_from zero xs h.4 later in
+      h.6 ∙ (λ i. cond (said.0 i) (said.2 i ∷ rest i) (rest i))
+  kept_from (suc n) (x ∷ xs) ys h =
+      let said = says (suc n) x h.0 h.1 h.2 h.3 in
+      let stays : h.0 ≡ true = said.0 ∙ ap (λ b. b || test x) (lt-ltb 0 (suc n) (omega arith)) in
+      let next : suc n - 1 ≡ n = omega arith in
+      let later = subst (λ g. RetainsInTurn R g xs h.4) (said.1 ∙ ap state next) h.5 in
+      let rest = kept_from n xs h.4 later in
+      h.6 ∙ (λ i. cond (stays i) (said.2 i ∷ rest i) (rest i))

@@ -1,16 +1,24 @@
 -- What is left without the highest-numbered users of a row.
-use Rattle.std.proofs.Common.{◌≡◌, ℕ, zero, suc, ◌+◌, ◌-◌, ◌<◌, ◌≤◌, Bool, true, false, cond, not, ◌&&◌, eqb, ltb, List, [], ◌∷◌, ◌++◌, length, get_or, take, drop, ℤ, sum_by, sym, refl, ap, ◌∙◌, subst₂, ⊎_elim, le_refl, arith, length-append, length-drop, length-take}
+use Rattle.std.proofs.Common.{◌≡◌, ℕ, zero, suc, ◌+◌, ◌-◌, ◌<◌, ◌≤◌, Bool, true, false, cond, not, ◌&&◌, eqb, ltb, List, [], ◌∷◌, ◌++◌, length, get_or, take, drop, ℤ, sum_by, sym, refl, ap, ap₂, ◌∙◌, subst₂, ⊎_elim, le_refl, arith, length-append, length-drop, length-take}
 use Rattle.std.proofs.lemmas.Bool.{lt-ltb, le-ltb, or_parts, and_right, not-true, cases_lt, cond_both, cond-true, cond-false}
 use Rattle.std.proofs.lemmas.List.Sums.{sum_by-cons, sum_by-append, sum_by-take-drop, length-filter, sum_by-drop_more}
 use Rattle.std.proofs.lemmas.List.{at_drop_all}
 use Rattle.std.proofs.lemmas.List.Filters.{length-filter_both}
 use Rattle.std.proofs.lemmas.Bool.Decides.{nat_tests}
+use Rattle.terms.specs.declared.strategy.Kind.TheVariants.{Opposed}
 use Rattle.terms.specs.declared.strategy.Leg.{Leg}
 use Rattle.terms.specs.declared.strategy.Line.{Line}
 use Rattle.terms.specs.Sides as sides
 use Rattle.lines.specs.Lots.{leg_sum, holds, writes, held, written, fits, fitting, takes, touches, uses, users}
 use Rattle.lines.specs.Broken.{without, sparing, sparing_from, Front, Broken}
-use Rattle.lines.proofs.Fronts.{blank, fitting-is}
+
+-- a line for places that there are not
+blank : Line
+blank = record { kind = Opposed; legs = [] }
+
+-- whether lots fit, by their sums
+fitting-is : (row : ℕ) (net : ℤ) (lines : List Line) (h w : ℕ) (b : Bool) → h ≡ held row lines → w ≡ written row lines → b ≡ fits net h w → fitting row net lines ≡ b
+fitting-is row net lines h w b p q e = ap₂ (fits net) (sym p) (sym q) ∙ sym e
 
 not-not : (b : Bool) → not (not b) ≡ b
 not-not true = refl

@@ -1,10 +1,12 @@
 -- Which lots of a row strategy lines group.
-use Rattle.std.specs.Prelude.{ℕ, ◌+◌, Bool, false, cond, not, ◌&&◌, ◌||◌, List, [], ◌∷◌, ℤ, sum_by, count_by, ◌==◌, nat_eq, nat_le, nat_lt}
+use Rattle.std.specs.Prelude.{ℕ, ◌≡◌, ◌+◌, ◌^◌, ◌<◌, ◌≤◌, Bool, cond, not, ◌&&◌, List, [], ◌∷◌, ℤ, sum_by, count_by, ◌==◌, nat_eq, nat_le, nat_lt}
+use Rattle.std.specs.List.{list_any}
 use borrow.Author.Differences.{up, down}
 use Rattle.terms.specs.declared.strategy.Kind.{Kind}
 use Rattle.terms.specs.declared.strategy.Leg.{Leg}
 use Rattle.terms.specs.declared.strategy.Line.{Line}
 use Rattle.terms.specs.Sides as sides
+use Rattle.lines.specs.declared.lots.Lots.{Lots}
 
 -- a sum over legs, the first of which has the index i
 abbrev pub leg_sum : (ℕ → Leg → ℕ) → ℕ → List Leg → ℕ
@@ -43,14 +45,21 @@ fits net held written = nat_le held (up net) && nat_le written (down net)
 abbrev pub fitting : ℕ → ℤ → List Line → Bool
 fitting row net lines = fits net (held row lines) (written row lines)
 
+-- neither lots held nor lots written are above a bound
+abbrev pub AtMost : ℕ → Lots → Type 0
+AtMost most lots = (lots.held ≤ most) × (lots.written ≤ most)
+
 -- a leg is used, and has a row of the set
 abbrev pub takes : (ℕ → Bool) → Leg → Bool
 takes has leg = nat_lt 0 leg.lots && has leg.row
 
 -- one of the legs is used and has a row of the set
 abbrev pub touches : (ℕ → Bool) → List Leg → Bool
-touches has [] = false
-touches has (leg ∷ legs) = takes has leg || touches has legs
+touches has legs = list_any (takes has) legs
+
+-- what a closure answers of each row is whether it is in the set
+abbrev pub Computes : (ℕ → Bool → Type 0) → (ℕ → Bool) → Type 0
+Computes answers has = (row : ℕ) → row < 2 ^ 32 → (b : Bool) → answers row b → b ≡ has row
 
 -- a line uses a row of the set
 abbrev pub uses_any : (ℕ → Bool) → Line → Bool

@@ -1,122 +1,131 @@
-// The table of standing lines: at most 64, in memory that is taken once.
-ghost use Rattle.std.specs.Prelude.{◌≡◌, ◌≤◌, [], length, IfOk, if◌then◌else◌, vec_len, vec_capacity, nat_le, nat_lt};
+// The table of standing lines: at most 64, in memory of its own.
+ghost use Rattle.std.specs.Prelude.{◌≡◌, ◌≤◌, ◌↔◌, ℕ, Bool, [], length, slice_get, IsOk, OnOk, OnErr, OnSome, IfNone};
 ghost use Rattle.std.specs.List.{remove};
 ghost use Rattle.lines.specs.Broken.{Broken, Front, sparing, sparing_from};
+ghost use Rattle.lines.specs.Lots.{Computes};
 
 use crate::lots::{Lots, lots_in};
-use crate::row_set::{OneRow, RowSet, touches_any};
-use std::alloc::{AllocError, Global};
+use crate::row_set::touches_any;
+use arrayvec::ArrayVec;
+use std::marker::Model;
 use terms::limits::MAX_LINES;
 use terms::strategy::Line;
+
+/// A sheet has more lines than can stand at once.
+#[derive(Clone, Copy, PartialEq, Eq, Debug)]
+pub struct TooManyLines;
 
 /// The standing lines, by number.
 #[derive(Drop)]
 pub struct Lines {
-    items: Vec<Line>,
-    ghost room: { 64 ≤ vec_capacity items },
-    ghost few: { vec_len items ≤ 64 },
+    items: ArrayVec<Line, MAX_LINES>,
+}
+
+impl Model for Lines {
+    ghost use Rattle.std.specs.Prelude.{List};
+    ghost use Rattle.terms.specs.declared.strategy.Line.{Line};
+
+    ghost Value = { List Line };
+
+    ghost view = { λ lines. lines.items.items };
 }
 
 impl Lines {
-    /// No lines, with room for 64.
-    pub fn new(heap: Global) -> Result<Lines, AllocError>
-        ensures { IfOk result (λ lines. lines.items.items ≡ []) }
+    /// No lines.
+    pub fn new() -> Lines
+        ensures { result ≡ [] }
     {
-        let items = Vec::with_capacity(heap, MAX_LINES)?;
-        Ok(Lines { items })
+        Lines {
+            items: ArrayVec::new(),
+        }
     }
 
     /// The lines that stand.
     pub fn as_slice(&self) -> &[Line]
-        ensures { result.now ≡ self.now.items.items }
+        ensures lines { result.now ≡ self.now }
+        ensures few { length result.now ≤ 64 }
     {
         self.items.as_slice()
     }
 
     /// Removes all lines.
     pub fn clear(&mut self)
-        ensures { self.new.items.items ≡ [] }
+        ensures { self.new ≡ [] }
     {
         self.items.clear();
     }
 
     /// Takes up the lines of a sheet in the place of its own, where there are at most 64.
-    pub fn refill(&mut self, sheet: &[Line]) -> bool
-        ensures test { result ≡ nat_le (length sheet.now) 64 }
-        ensures lines { self.new.items.items ≡ (if result then sheet.now else self.old.items.items) }
+    pub fn refill(&mut self, sheet: &[Line]) -> Result<(), TooManyLines>
+        ensures test { IsOk result ↔ (length sheet.now ≤ 64) }
+        ensures lines { OnOk result (self.new ≡ sheet.now) }
+        ensures same { OnErr result (self.new ≡ self.old) }
     {
         if sheet.len() > MAX_LINES {
-            return false;
+            return Err(TooManyLines);
         }
         self.items.clear();
-        for line in sheet {
-            self.items.push_reserved(*line);
-        }
-        true
+        self.items
+            .try_extend_from_slice(sheet)
+            .map_err(|_| TooManyLines)
     }
 
-    /// Breaks one line, where it stands; the higher ones move down.
-    pub fn remove(&mut self, line: usize) -> bool
-        ensures test { result ≡ nat_lt line (length self.old.items.items) }
-        ensures lines { self.new.items.items ≡ (if result then remove self.old.items.items line else self.old.items.items) }
+    /// Breaks one line, where it stands, and answers it; the higher ones move down.
+    pub fn remove(&mut self, line: usize) -> Option<Line>
+        ensures broken { result ≡ slice_get self.old line }
+        ensures lines { OnSome result (self.new ≡ remove self.old line) }
+        ensures same { IfNone result (self.new ≡ self.old) }
     {
-        if line >= self.items.len() {
-            return false;
-        }
-        let _ = self.items.remove(line);
-        true
+        self.items.pop_at(line)
     }
 
     /// Breaks lines until the lots of a row fit its net, the highest-numbered users of the row first, and answers how many.
     pub fn fit(&mut self, row: usize, net: i32) -> usize
-        ensures { Broken row net self.old.items.items result self.new.items.items }
+        ensures { Broken row net self.old result self.new }
     {
         let before = self.items.len();
         let front = fitting_front(self.items.as_slice(), row, net);
-        spare_from(&mut self.items, front, &OneRow { row });
+        self.spare_from(front, &|used: u32| used as usize == row);
         before - self.items.len()
     }
 
-    /// Breaks every line that uses a row of the set.
-    pub fn break_users<S: RowSet>(&mut self, set: &S)
-        ensures { self.new.items.items ≡ sparing (S.RowSet.has set.now) self.old.items.items }
+    /// Breaks every line that uses a row of the set; what is asked of the closure is that it may be called.
+    pub fn break_users<F: Fn(u32) -> bool>(&mut self, in_set: F)
+        requires { F.IsAlwaysCallable in_set }
+        ensures { (has : ℕ → Bool) → Computes (F.post in_set) has → self.new ≡ sparing has self.old }
     {
-        spare_from(&mut self.items, 0, set);
+        self.spare_from(0, &in_set);
+    }
+
+    /// Removes, from the line `from` on, every line that uses a row of the set.
+    fn spare_from<F: Fn(u32) -> bool>(&mut self, from: usize, in_set: &F)
+        requires { F.IsAlwaysCallable in_set.now }
+        ensures spared { (has : ℕ → Bool) → Computes (F.post in_set.now) has → self.new ≡ sparing_from from has self.old }
+        ensures few { length self.new ≤ length self.old }
+    {
+        let mut ahead = from;
+        self.items.retain(
+            move |line|
+                requires { F.IsAlwaysCallable in_set.now }
+            {
+                let is_ahead = ahead > 0;
+                ahead = ahead.saturating_sub(1);
+                is_ahead || !touches_any(&line.legs, in_set)
+            },
+        );
     }
 }
 
 /// How many lines the longest front has whose lots of the row fit the net.
 fn fitting_front(lines: &[Line], row: usize, net: i32) -> usize
-    requires { length lines.now ≤ 64 }
     ensures { Front row net lines.now result }
 {
-    let mut held = 0;
-    let mut written = 0;
+    let mut lots = Lots::default();
     for (i, line) in lines.iter().enumerate() {
-        let lots = lots_in(line, row);
-        held += lots.held;
-        written += lots.written;
-        if !(Lots { held, written }).fit(net) {
+        lots.add(lots_in(line, row));
+        if !lots.fit(net) {
             return i;
         }
     }
     lines.len()
-}
-
-/// Removes, from the line `from` on, every line that uses a row of the set.
-fn spare_from<S: RowSet>(lines: &mut Vec<Line>, from: usize, set: &S)
-    requires { from ≤ vec_len lines.old }
-    ensures items { lines.new.items ≡ sparing_from from (S.RowSet.has set.now) lines.old.items }
-    ensures few { vec_len lines.new ≤ vec_len lines.old }
-    ensures room { vec_capacity lines.new ≡ vec_capacity lines.old }
-{
-    let mut stay = from;
-    for i in from..lines.len() {
-        let line = lines[i];
-        if !touches_any(&line.legs, set) {
-            lines[stay] = line;
-            stay += 1;
-        }
-    }
-    lines.truncate(stay);
 }

@@ -1,23 +1,15 @@
-use Rattle.std.proofs.Common.{◌+◌, cond, drop, Some, sym, ap, ◌∙◌}
-use Rattle.std.proofs.lemmas.List.{at_drop_more, at_drop_all}
-use Rattle.terms.specs.Holdings.{no_row}
-use Rattle.lines.specs.Tally.{first_overdrawn}
+use Rattle.std.proofs.Common.{rules, sym, ◌∙◌}
+use Rattle.std.specs.List.{zip}
+use Rattle.std.proofs.lemmas.Iterator.{YieldsList-from_slice, YieldsList-from_zip}
+use Rattle.std.proofs.lemmas.Iterator.Adapters.{position_from-zero}
+use Rattle.std.proofs.lemmas.Iterator.Search.{position_from_yields_List}
+use Rattle.lines.proofs.Tallies.{misfit, beside}
 use Rattle.lines.proofs.tally.Tally.first_overdrawn.Goals as goal
-
-pub returns-then-not-fits : goal.returns-then-not-fits
-returns-then-not-fits c =
-    let i = c.loop-i.i in
-    let first = first_overdrawn c.args.self.now.held c.args.self.now.written in
-    let later = first (i + 1) (drop (i + 1) c.args.rows.now) in
-    sym (sym c.loop-i.invariant ∙ (at_drop_more (first i) c.args.rows.now i no_row c.loop-i-test.true ∙ ap (λ b. cond b later (Some i)) (sym c.if-not-fits.ensures)))
-
-pub loop-i-preserved : goal.loop-i-preserved
-loop-i-preserved c =
-    let i = c.loop-i.i in
-    let first = first_overdrawn c.args.self.now.held c.args.self.now.written in
-    let later = first (i + 1) (drop (i + 1) c.args.rows.now) in
-    sym (at_drop_more (first i) c.args.rows.now i no_row c.loop-i-test.true ∙ ap (λ b. cond b later (Some i)) (sym c.if-not-fits.ensures)) ∙ c.loop-i.invariant
 
 pub returns : goal.returns
 returns c =
-    sym (sym c.loop-i.invariant ∙ at_drop_all (first_overdrawn c.args.self.now.held c.args.self.now.written c.loop-i.i) c.args.rows.now c.loop-i.i c.loop-i-test.false)
+    position_from_yields_List misfit c.position.new.self _ c.position.result c.position.ensures.ran
+    (YieldsList-from_zip (YieldsList-from_slice c.args.rows.now (search rules)) (YieldsList-from_slice c.args.self.now (search rules)))
+    (λ x b q k. search rules)
+    ∙ (position_from-zero misfit (zip c.args.rows.now c.args.self.now)
+    ∙ sym (beside c.args.self.now c.args.rows.now 0))
