@@ -2,6 +2,6 @@
 #![tactic(auto)]
 
 pub mod lots;
-mod row_set;
+pub mod row_set;
 pub mod table;
 pub mod tally;

@@ -4,6 +4,17 @@ ghost use Rattle.lines.specs.Lots.{Computes, takes, touches};
 
 use terms::strategy::Leg;
 
+/// A set of rows.
+// Stays: a closure in its place would have to be required callable, and no public function requires anything of its caller; a
+// ghost field cannot say it of a closure.
+pub trait RowSet {
+    // which rows are in it
+    ghost has: { Self → ℕ → Bool };
+
+    fn contains(&self, row: usize) -> bool
+        ensures { result ≡ has self.now row };
+}
+
 /// Whether one of the legs is used and has a row of the set.
 pub(crate) fn touches_any<F: Fn(u32) -> bool>(legs: &[Leg], in_set: &F) -> bool
     requires { F.IsAlwaysCallable in_set.now }

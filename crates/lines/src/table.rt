@@ -5,7 +5,7 @@ ghost use Rattle.lines.specs.Broken.{Broken, Front, sparing, sparing_from};
 ghost use Rattle.lines.specs.Lots.{Computes};
 
 use crate::lots::{Lots, lots_in};
-use crate::row_set::touches_any;
+use crate::row_set::{RowSet, touches_any};
 use arrayvec::ArrayVec;
 use std::marker::Model;
 use terms::limits::MAX_LINES;
@@ -89,12 +89,11 @@ impl Lines {
         before - self.items.len()
     }
 
-    /// Breaks every line that uses a row of the set; what is asked of the closure is that it may be called.
-    pub fn break_users<F: Fn(u32) -> bool>(&mut self, in_set: F)
-        requires { F.IsAlwaysCallable in_set }
-        ensures { (has : ℕ → Bool) → Computes (F.post in_set) has → self.new ≡ sparing has self.old }
+    /// Breaks every line that uses a row of the set.
+    pub fn break_users<S: RowSet>(&mut self, set: &S)
+        ensures { self.new ≡ sparing (S.RowSet.has set.now) self.old }
     {
-        self.spare_from(0, &in_set);
+        self.spare_from(0, &|row: u32| set.contains(row as usize));
     }
 
     /// Removes, from the line `from` on, every line that uses a row of the set.
