@@ -16,13 +16,7 @@ pub fn surcharged_twice(
 ) -> Result<Option<u64>, PercentageAbove100>
     ensures { IfOk result (λ rate. rate ≡ surcharged second quote.now.security (surcharged first quote.now.security (scale_rate quote.now))) }
 {
-    let below = match Surcharge::new(Scale, first) {
-        Ok(below) => below,
-        Err(denied) => return Err(denied.fault),
-    };
-    let mut rates = match Surcharge::new(below, second) {
-        Ok(rates) => rates,
-        Err(denied) => return Err(denied.fault),
-    };
+    let below = Surcharge::new(Scale, first)?;
+    let mut rates = Surcharge::new(below, second)?;
     Ok(rates.rate(quote))
 }

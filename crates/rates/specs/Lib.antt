@@ -2,7 +2,6 @@ pub mod Table
 pub mod Rounding
 pub mod Scale
 pub mod Bands
-pub mod Products
 pub mod Ceilings
 pub mod Published
 pub mod Percentages

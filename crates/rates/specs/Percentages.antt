@@ -1,10 +1,10 @@
 -- The percentages of a house surcharge, by security number.
-use Rattle.std.specs.Prelude.{ℕ, ◌<◌, ◌≤◌, Bool, true, ◌&&◌, List, [], ◌∷◌, length, nat_le, slice_index}
+use Rattle.std.specs.Prelude.{ℕ, ◌<◌, ◌≤◌, Bool, List, length, nat_le, slice_index}
+use Rattle.std.specs.List.{list_all}
 
 -- none is above 100
 abbrev pub all_fair : List ℕ → Bool
-all_fair [] = true
-all_fair (percent ∷ percents) = nat_le percent 100 && all_fair percents
+all_fair percents = list_all (λ percent. nat_le percent 100) percents
 
 -- the first that is above 100 is this security's
 pub record FirstUnfair (percents : List ℕ) (security : ℕ) : Type 0 where

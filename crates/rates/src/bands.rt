@@ -1,10 +1,11 @@
 // The bands of the scale: how the strike stands to the closing price, and what floor follows from it.
-ghost use Rattle.std.specs.Prelude.{◌≡◌, ◌≤◌, true, Some};
-ghost use Rattle.rates.specs.Scale.{percent_of, floor_of, is_admitted};
+ghost use Rattle.std.specs.Prelude.{◌≡◌, ◌≤◌};
+ghost use Rattle.rates.specs.Scale.{percent_of, floor_of};
 ghost use Rattle.rates.specs.Bands.{holds, share_of, applies, first_floor};
 
 use crate::rate_book::Quote;
 use crate::rounding::rounded_up;
+use crate::scale::Admitted;
 use terms::OptionType;
 
 /// How the strike stands to so many per cent of the closing price.
@@ -70,15 +71,15 @@ const PUTS: [Band; 4] = [
 ];
 
 impl Moneyness {
-    fn holds(&self, strike: u64, close: u64) -> bool
-        requires { (strike ≤ 10000000) × (close ≤ 10000000) }
-        ensures { result ≡ holds self.now strike close }
+    fn holds(self, admitted: Admitted) -> bool
+        ensures { result ≡ holds self admitted.entry.quote.now.strike admitted.entry.quote.now.close }
     {
+        let Quote { strike, close, .. } = *admitted.quote;
         match self {
-            Moneyness::AtLeast(percent) => 100 * strike >= u64::from(*percent) * close,
-            Moneyness::Over(percent) => 100 * strike > u64::from(*percent) * close,
-            Moneyness::AtMost(percent) => 100 * strike <= u64::from(*percent) * close,
-            Moneyness::Under(percent) => 100 * strike < u64::from(*percent) * close,
+            Moneyness::AtLeast(percent) => 100 * strike >= u64::from(percent) * close,
+            Moneyness::Over(percent) => 100 * strike > u64::from(percent) * close,
+            Moneyness::AtMost(percent) => 100 * strike <= u64::from(percent) * close,
+            Moneyness::Under(percent) => 100 * strike < u64::from(percent) * close,
             Moneyness::Any => true,
         }
     }
@@ -92,46 +93,39 @@ fn percent_of(percent: u8, price: u64, lot: u64) -> u64
 }
 
 impl Share {
-    fn of(&self, quote: &Quote) -> u64
-        requires { is_admitted quote.now ≡ true }
-        ensures { result ≡ share_of self.now quote.now }
+    fn of(self, admitted: Admitted) -> u64
+        ensures { result ≡ share_of self admitted.entry.quote.now }
     {
+        let quote = admitted.quote;
         match self {
-            Share::OfStrike(percent) => percent_of(*percent, quote.strike, quote.lot),
-            Share::OfClose(percent) => percent_of(*percent, quote.close, quote.lot),
+            Share::OfStrike(percent) => percent_of(percent, quote.strike, quote.lot),
+            Share::OfClose(percent) => percent_of(percent, quote.close, quote.lot),
         }
     }
 }
 
 impl Band {
-    fn applies(&self, quote: &Quote) -> bool
-        requires { is_admitted quote.now ≡ true }
-        ensures { result ≡ applies self.now quote.now }
+    fn applies(&self, admitted: Admitted) -> bool
+        ensures { result ≡ applies self.now admitted.entry.quote.now }
     {
-        self.strike.holds(quote.strike, quote.close)
+        self.strike.holds(admitted)
     }
 }
 
-fn first_floor(bands: &[Band], quote: &Quote) -> Option<u64>
-    requires { is_admitted quote.now ≡ true }
-    ensures { result ≡ first_floor bands.now quote.now }
+fn first_floor(bands: &[Band], admitted: Admitted) -> Option<u64>
+    ensures { result ≡ first_floor bands.now admitted.entry.quote.now }
 {
-    for band in bands {
-        if band.applies(quote) {
-            return Some(band.floor.of(quote));
-        }
-    }
-    None
+    let band = bands.iter().find(|band| band.applies(admitted))?;
+    Some(band.floor.of(admitted))
 }
 
 /// The floor under the rate of a quote within the limits.
-pub(super) fn floor(quote: &Quote) -> u64
-    requires { is_admitted quote.now ≡ true }
-    ensures { result ≡ floor_of quote.now.option quote.now.strike quote.now.close quote.now.lot }
+pub(super) fn floor(admitted: Admitted) -> u64
+    ensures { let q = admitted.entry.quote.now in result ≡ floor_of q.option q.strike q.close q.lot }
 {
-    let bands = match quote.option {
+    let bands = match admitted.quote.option {
         OptionType::Call => &CALLS,
         OptionType::Put => &PUTS,
     };
-    first_floor(bands, quote).unwrap()
+    first_floor(bands, admitted).unwrap()
 }

@@ -2,7 +2,6 @@
 #![tactic(auto)]
 
 mod bands;
-mod entries;
 pub mod laws;
 pub mod list;
 pub mod percentages;

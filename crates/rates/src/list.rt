@@ -1,8 +1,7 @@
 // The published list: the caller's own amounts, by row number.
 ghost use Rattle.std.specs.Prelude.{◌≡◌};
-ghost use Rattle.rates.specs.Published.{entry_rate, published_rate, published-capped};
+ghost use Rattle.rates.specs.Published.{published_rate, published-capped};
 
-use crate::entries::entry;
 use crate::rate_book::{Quote, RateBook};
 use terms::limits::CEILING;
 
@@ -26,11 +25,7 @@ impl RateBook for PublishedList<'_> {
     ghost capped = { λ list q. published-capped list.amounts.now q.row };
 
     fn rate(&mut self, quote: &Quote) -> Option<u64> {
-        let amount = entry(self.amounts, quote.row);
-        if (1..=CEILING).contains(&amount) {
-            Some(amount)
-        } else {
-            None
-        }
+        let amount = *self.amounts.get(quote.row as usize)?;
+        (1..=CEILING).contains(&amount).then_some(amount)
     }
 }

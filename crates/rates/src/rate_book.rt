@@ -18,6 +18,7 @@ pub struct Quote {
 }
 
 /// A table from quotes to amounts per lot, in centavos.
+// Stays: the product prescribes rate books as an interface, and each keeps its table and the ceiling as laws.
 pub trait RateBook {
     // the amount for each quote, or none where it has no rate
     ghost table: { Self → Quote → Maybe ℕ };

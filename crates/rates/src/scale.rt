@@ -1,5 +1,5 @@
 // The exchange's scale, worked out from the quote alone.
-ghost use Rattle.std.specs.Prelude.{◌≡◌};
+ghost use Rattle.std.specs.Prelude.{◌≡◌, true, false, MatchOption};
 ghost use Rattle.rates.specs.Scale.{is_admitted, scale_rate};
 ghost use Rattle.rates.specs.Ceilings.{scale-capped};
 
@@ -11,13 +11,29 @@ use terms::limits::{HasLimits, LotSize, Premium, Price};
 #[derive(Clone, Copy)]
 pub struct Scale;
 
-fn is_admitted(quote: &Quote) -> bool
-    ensures { result ≡ is_admitted quote.now }
-{
-    Price::contains(quote.strike)
-        && Premium::contains(quote.premium)
-        && Price::contains(quote.close)
-        && LotSize::contains(quote.lot)
+/// A quote with every figure within its limits.
+#[derive(Clone, Copy)]
+pub(super) struct Admitted<'a> {
+    pub(super) quote: &'a Quote,
+    ghost admitted: { is_admitted quote.now ≡ true },
+}
+
+impl Admitted<'_> {
+    /// The quote, where every figure is within its limits.
+    fn of(quote: &Quote) -> Option<Admitted<'_>>
+        ensures { MatchOption result (is_admitted quote.now ≡ false) (λ a. a.quote.now ≡ quote.now) }
+    {
+        let is_admitted = Price::contains(quote.strike)
+            && Premium::contains(quote.premium)
+            && Price::contains(quote.close)
+            && LotSize::contains(quote.lot);
+        // Stays: inside a closure for `then` it is not known that the test holds.
+        if is_admitted {
+            Some(Admitted { quote })
+        } else {
+            None
+        }
+    }
 }
 
 impl RateBook for Scale {
@@ -26,9 +42,7 @@ impl RateBook for Scale {
     ghost capped = { λ _ q. scale-capped q };
 
     fn rate(&mut self, quote: &Quote) -> Option<u64> {
-        if !is_admitted(quote) {
-            return None;
-        }
-        Some(floor(quote).max(2 * quote.premium * quote.lot))
+        let admitted = Admitted::of(quote)?;
+        Some(floor(admitted).max(2 * quote.premium * quote.lot))
     }
 }
