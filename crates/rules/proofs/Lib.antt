@@ -1,3 +1,2 @@
-mod Loops
-mod Places
+mod Chains
 pub mod Lawfuls

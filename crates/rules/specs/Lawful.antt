@@ -1,6 +1,6 @@
 -- A line that obeys every rule.
 use Rattle.std.specs.Prelude.{◌≡◌, ℕ, ◌<◌, true, false, List, length, Ok, count_by, Result, ◌≢◌}
-use Rattle.std.specs.List.{AllByRecursion}
+use Rattle.std.specs.List.{All}
 use Rattle.terms.specs.declared.holdings.Security.{Security}
 use Rattle.terms.specs.declared.holdings.Row.{Row}
 use Rattle.terms.specs.declared.strategy.Line.{Line}
@@ -44,4 +44,4 @@ PassesLawful rows securities line r = (r ≡ Ok tt → Lawful rows securities li
 
 -- a sheet passes exactly if each of its lines obeys every rule
 abbrev pub PassesAllLawful : List Row → List Security → List Line → Result (Unit {0}) SheetFault → Type 0
-PassesAllLawful rows securities lines r = (r ≡ Ok tt → AllByRecursion (Lawful rows securities) lines) × (AllByRecursion (Lawful rows securities) lines → r ≡ Ok tt)
+PassesAllLawful rows securities lines r = (r ≡ Ok tt → All (Lawful rows securities) lines) × (All (Lawful rows securities) lines → r ≡ Ok tt)

@@ -1,19 +1,20 @@
 -- What a leg and its row are, in tables of rows and securities.
-use Rattle.std.specs.Prelude.{ℕ, ◌+◌, Bool, true, cond, not, ◌&&◌, List, [], ◌∷◌, get_or, is_some, Some, None, Option, nat_lt, slice_index_or}
+use Rattle.std.specs.Prelude.{ℕ, ◌+◌, Bool, true, cond, not, ◌&&◌, List, [], ◌∷◌, get_or, is_some, Some, None, Option, nat_lt}
 use Rattle.terms.specs.declared.holdings.Class.{Class}
 use Rattle.terms.specs.declared.holdings.Security.{Security}
 use Rattle.terms.specs.declared.holdings.Contract.{Contract}
 use Rattle.terms.specs.declared.holdings.Row.{Row}
 use Rattle.terms.specs.declared.strategy.Leg.{Leg}
-use Rattle.terms.specs.Holdings.{no_security, no_row}
+use Rattle.terms.specs.Holdings.{no_security}
+use Rattle.terms.specs.Listings.{row_at, contract_at}
 
 -- the row that a leg names
 abbrev pub row_of : List Row → Leg → Row
-row_of rows leg = slice_index_or rows leg.row no_row
+row_of rows leg = row_at rows leg.row
 
 -- what the lots of a leg are lots of
 abbrev pub contract_of : List Row → Leg → Contract
-contract_of rows leg = (row_of rows leg).contract
+contract_of rows leg = contract_at rows leg.row
 
 -- the class of a security
 abbrev pub class_at : List Security → ℕ → Class

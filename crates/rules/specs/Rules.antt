@@ -116,17 +116,8 @@ and_then (Ok u) next = next
 and_then (Err fault) next = Err fault
 
 -- a fault, unless something is so
-abbrev pub unless : Bool → LineFault → Result (Unit {0}) LineFault
+abbrev pub unless : {F : Type 0} → Bool → F → Result (Unit {0}) F
 unless right fault = cond right (Ok tt) (Err fault)
-
--- a fault, where something is so
-abbrev pub leg_checked : LegFault → Bool → Result (Unit {0}) LegFault
-leg_checked fault wrong = cond wrong (Err fault) (Ok tt)
-
--- a fault with its place
-abbrev pub placed : {F : Type 0} → ℕ → Result (Unit {0}) F → Result (Unit {0}) (ℕ × F)
-placed place (Ok u) = Ok u
-placed place (Err fault) = Err (place, fault)
 
 -- a fault of a line, where a leg has it
 abbrev pub told_at : LegFault → Option ℕ → Result (Unit {0}) LineFault

@@ -6,20 +6,23 @@ use Rattle.terms.specs.declared.holdings.Class.{Class}
 use Rattle.terms.specs.declared.holdings.Class.TheVariants.{ListB, ListA, Other}
 use Rattle.terms.specs.declared.holdings.Contract.{Contract}
 use Rattle.terms.specs.declared.holdings.Contract.TheVariants.{Deposit, Series, Term}
+use Rattle.terms.specs.Holdings.{same_type as same_option_type}
 use Rattle.terms.specs.declared.strategy.Kind.{Kind}
 use Rattle.terms.specs.declared.strategy.Kind.TheVariants.{Opposed, BoughtButterfly, SoldButterfly, SoldCone, Covered, TermPurchase, TermSale}
 
+-- an option of a type
+abbrev pub is_option : OptionType → Contract → Bool
+is_option option Deposit = false
+is_option option (Series series) = same_option_type series.option option
+is_option option (Term term) = false
+
 -- a call option
 abbrev pub is_call : Contract → Bool
-is_call Deposit = false
-is_call (Series series) = elim series.option [ Call ↦ true | Put ↦ false ]
-is_call (Term term) = false
+is_call contract = is_option Call contract
 
 -- a put option
 abbrev pub is_put : Contract → Bool
-is_put Deposit = false
-is_put (Series series) = elim series.option [ Call ↦ false | Put ↦ true ]
-is_put (Term term) = false
+is_put contract = is_option Put contract
 
 -- a deposit
 abbrev pub is_deposit : Contract → Bool

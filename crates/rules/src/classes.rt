@@ -3,15 +3,16 @@ ghost use Rattle.std.specs.Prelude.{◌≡◌};
 ghost use Rattle.rules.specs.Sorts.{admits, admitted};
 ghost use Rattle.rules.specs.Rules.{right_class};
 
-use crate::tables::{class_of, contract_of, leg_at};
+use crate::line::LineInBook;
 use terms::OptionType;
-use terms::holdings::{Class, Contract, Row, Security};
-use terms::strategy::{Kind, Leg};
+use terms::holdings::{Class, Contract};
+use terms::strategy::Kind;
 
 /// Whether a class admits a kind with options of a type.
 fn admits(kind: Kind, option: OptionType, class: Class) -> bool
     ensures { result ≡ admits kind option class }
 {
+    // Stays: the product prescribes one match over all three, with a condition on puts.
     match (kind, option, class) {
         (Kind::Opposed | Kind::BoughtButterfly, OptionType::Call, _) => true,
         (Kind::Opposed | Kind::BoughtButterfly, OptionType::Put, class) if class == Class::ListB =>
@@ -27,25 +28,15 @@ fn admits(kind: Kind, option: OptionType, class: Class) -> bool
 fn is_admitted(kind: Kind, lead: Contract, class: Class) -> bool
     ensures { result ≡ admitted kind lead class }
 {
-    match lead {
-        Contract::Series(series) => admits(kind, series.option, class),
-        _ => false,
-    }
+    matches!(lead, Contract::Series(series) if admits(kind, series.option, class))
 }
 
-/// Whether the class of leg 0's security admits the kind.
-pub(crate) fn is_right_class(
-    kind: Kind,
-    legs: &[Leg],
-    rows: &[Row],
-    securities: &[Security],
-) -> bool
-    ensures { result ≡ right_class kind legs.now rows.now securities.now }
-{
-    let lead = leg_at(legs, 0);
-    is_admitted(
-        kind,
-        contract_of(rows, lead),
-        class_of(rows, securities, lead),
-    )
+impl LineInBook<'_> {
+    /// Whether the class of leg 0's security admits the kind.
+    pub(crate) fn has_right_class(self) -> bool
+        ensures { let line = self.entry.line.now in result ≡ right_class line.kind line.legs self.entry.listings.rows.now self.entry.listings.securities.now }
+    {
+        let class = self.listings.class(self.leg(0).row);
+        is_admitted(self.line.kind, self.lead(), class)
+    }
 }

@@ -1,88 +1,61 @@
 // The faults of legs, and the first leg of a line that has one.
-ghost use Rattle.std.specs.Prelude.{◌≡◌, ◌&&◌};
-ghost use Rattle.rules.specs.Legs.{used};
-ghost use Rattle.rules.specs.Rules.{wrong_sort, other_security, ends_too_early, at_fault, leg_checked, legs_checked, placed};
+ghost use Rattle.std.specs.Prelude.{◌≡◌, ◌<◌, length, Bool, ℕ};
+ghost use Rattle.terms.specs.Sides.{leg_at};
+ghost use Rattle.rules.specs.Rules.{wrong_sort, other_security, ends_too_early, at_fault, legs_checked, unless};
 
 use crate::contracts::{is_of_one_type, is_right_sort};
-use crate::legs::{ends_before_written, is_used_before};
-use crate::tables::{contract_of, is_used, leg_at, row_of};
+use crate::legs::is_used;
+use crate::line::LineInBook;
 use denials::sheet::{LegFault, LineFault};
-use terms::holdings::Row;
-use terms::strategy::{Kind, Leg};
+use terms::strategy::Leg;
 
-fn is_wrong_sort(kind: Kind, legs: &[Leg], rows: &[Row], i: usize, leg: Leg) -> bool
-    ensures { result ≡ wrong_sort kind legs.now rows.now i leg }
+/// A fault, unless something is so.
+pub(crate) fn deny_unless<F: Drop>(right: bool, fault: F) -> Result<(), F>
+    ensures { result ≡ unless right fault }
 {
-    let lead = contract_of(rows, leg_at(legs, 0));
-    !is_right_sort(kind, lead, i, contract_of(rows, leg))
+    // Stays: `right.then_some(()).ok_or(fault)` is no plainer, as it makes an Option on the way.
+    if right { Ok(()) } else { Err(fault) }
 }
 
-fn is_other_security(legs: &[Leg], rows: &[Row], leg: Leg) -> bool
-    ensures { result ≡ other_security legs.now rows.now leg }
-{
-    row_of(rows, leg).security != row_of(rows, leg_at(legs, 0)).security
-}
-
-fn ends_too_early(kind: Kind, legs: &[Leg], rows: &[Row], i: usize, leg: Leg) -> bool
-    ensures { result ≡ ends_too_early kind legs.now rows.now i leg }
-{
-    is_of_one_type(kind)
-        && !kind.writes(i)
-        && ends_before_written(kind, legs, rows, contract_of(rows, leg))
-}
-
-/// Whether the leg of index `i` has the fault.
-fn is_at_fault(fault: LegFault, kind: Kind, legs: &[Leg], rows: &[Row], i: usize, leg: Leg) -> bool
-    ensures { result ≡ at_fault fault kind legs.now rows.now i leg }
-{
-    match fault {
-        LegFault::NoSuchRow => leg.row as usize >= rows.len(),
-        LegFault::WrongSort => is_wrong_sort(kind, legs, rows, i, leg),
-        LegFault::RowUsedTwice => is_used_before(legs, i, leg),
-        LegFault::OtherSecurity => is_other_security(legs, rows, leg),
-        LegFault::EndsTooEarly => ends_too_early(kind, legs, rows, i, leg),
+impl LineInBook<'_> {
+    pub(crate) fn is_wrong_sort(self, i: usize, leg: Leg) -> bool
+        ensures { let line = self.entry.line.now in result ≡ wrong_sort line.kind line.legs self.entry.listings.rows.now i leg }
+    {
+        !is_right_sort(self.line.kind, self.lead(), i, self.contract(leg))
     }
-}
 
-/// Denies a leg that is used and has the fault.
-fn check_leg(
-    fault: LegFault,
-    kind: Kind,
-    legs: &[Leg],
-    rows: &[Row],
-    i: usize,
-    leg: Leg,
-) -> Result<(), LegFault>
-    ensures { result ≡ leg_checked fault (used leg && at_fault fault kind legs.now rows.now i leg) }
-{
-    if is_used(leg) && is_at_fault(fault, kind, legs, rows, i, leg) {
-        Err(fault)
-    } else {
+    pub(crate) fn is_other_security(self, leg: Leg) -> bool
+        ensures { result ≡ other_security self.entry.line.now.legs self.entry.listings.rows.now leg }
+    {
+        self.row(leg).security != self.row(self.leg(0)).security
+    }
+
+    pub(crate) fn ends_too_early(self, i: usize, leg: Leg) -> bool
+        ensures { let line = self.entry.line.now in result ≡ ends_too_early line.kind line.legs self.entry.listings.rows.now i leg }
+    {
+        is_of_one_type(self.line.kind)
+            && !self.line.kind.writes(i)
+            && self.ends_before_written(self.contract(leg))
+    }
+
+    /// Denies the first used leg that has the fault, by the test of it.
+    #[tactic(auto, using(std::proofs::lemmas::List::at_drop_all))]
+    pub(crate) fn check_legs<F: Fn(usize, Leg) -> bool>(
+        self,
+        fault: LegFault,
+        has_fault: F,
+    ) -> Result<(), LineFault>
+        requires callable { F.IsAlwaysCallable has_fault }
+        requires tests { let line = self.line.now in (i : ℕ) (b : Bool) → i < length line.legs → F.post has_fault i (leg_at line.legs i) b → b ≡ at_fault fault line.kind line.legs self.listings.rows.now i (leg_at line.legs i) }
+        ensures { let line = self.entry.line.now in result ≡ legs_checked fault line.kind line.legs self.entry.listings.rows.now }
+    {
+        // A slice, as the proof reads its length, and not an array's behind a reference.
+        let legs: &[Leg] = &self.line.legs;
+        // Stays: the product prescribes the loop over the legs, and the place added by `?`.
+        for (i, leg) in legs.iter().enumerate() {
+            let wrong = is_used(*leg) && has_fault(i, *leg);
+            deny_unless(!wrong, fault).map_err(|fault| (i as u64, fault))?;
+        }
         Ok(())
     }
-}
-
-/// A fault with its place in what is checked.
-pub(crate) fn at<F: Drop>(place: usize, res: Result<(), F>) -> Result<(), (u64, F)>
-    ensures { result ≡ placed place res }
-{
-    match res {
-        Ok(()) => Ok(()),
-        Err(fault) => Err((place as u64, fault)),
-    }
-}
-
-/// Denies the first used leg that has the fault.
-pub(crate) fn check_legs(
-    fault: LegFault,
-    kind: Kind,
-    legs: &[Leg],
-    rows: &[Row],
-) -> Result<(), LineFault>
-    ensures { result ≡ legs_checked fault kind legs.now rows.now }
-{
-    for (i, leg) in legs.iter().enumerate() {
-        at(i, check_leg(fault, kind, legs, rows, i, *leg))?;
-    }
-    Ok(())
 }

@@ -2,67 +2,60 @@
 #![tactic(auto)]
 
 ghost use Rattle.std.specs.Prelude.{◌≡◌};
-ghost use Rattle.rules.specs.Rules.{unless, rules_checked, line_checked, sheet_checked};
+ghost use Rattle.rules.specs.Rules.{rules_checked, line_checked, sheet_checked};
 ghost use Rattle.rules.specs.Lawful.{PassesLawful, PassesAllLawful};
 
-use crate::classes::is_right_class;
-use crate::faults::{at, check_legs};
-use crate::figures::{are_right_lots, are_right_strikes};
-use crate::legs::is_right_count;
+use crate::faults::deny_unless;
+use crate::line::LineInBook;
 use denials::sheet::{LegFault, LineFault, SheetFault};
-use terms::holdings::{Row, Security};
-use terms::strategy::{Kind, Leg, Line};
+use terms::listings::Listings;
+use terms::strategy::Line;
 
 mod classes;
 mod contracts;
 mod faults;
 mod figures;
 mod legs;
-mod tables;
+mod line;
 
-fn deny_unless(right: bool, fault: LineFault) -> Result<(), LineFault>
-    ensures { result ≡ unless right fault }
-{
-    if right { Ok(()) } else { Err(fault) }
-}
-
-/// Tests a line by the rules in their order, and tells the first that it breaks.
-fn check_rules(
-    kind: Kind,
-    legs: &[Leg],
-    rows: &[Row],
-    securities: &[Security],
-) -> Result<(), LineFault>
-    ensures { result ≡ rules_checked kind legs.now rows.now securities.now }
-{
-    check_legs(LegFault::NoSuchRow, kind, legs, rows)?;
-    deny_unless(is_right_count(kind, legs), LineFault::LegCount)?;
-    check_legs(LegFault::WrongSort, kind, legs, rows)?;
-    check_legs(LegFault::RowUsedTwice, kind, legs, rows)?;
-    check_legs(LegFault::OtherSecurity, kind, legs, rows)?;
-    let admitted = is_right_class(kind, legs, rows, securities);
-    deny_unless(admitted, LineFault::ClassNotAdmitted)?;
-    deny_unless(are_right_lots(kind, legs), LineFault::LotsDoNotMatch)?;
-    check_legs(LegFault::EndsTooEarly, kind, legs, rows)?;
-    let obeyed = are_right_strikes(kind, legs, rows);
-    deny_unless(obeyed, LineFault::StrikesBreakRule)
+impl LineInBook<'_> {
+    /// Tests the rules in their order, and tells the first that the line breaks.
+    fn check_rules(self) -> Result<(), LineFault>
+        ensures { let line = self.entry.line.now in result ≡ rules_checked line.kind line.legs self.entry.listings.rows.now self.entry.listings.securities.now }
+    {
+        let rows = self.listings.rows.len();
+        self.check_legs(LegFault::NoSuchRow, |_, leg| leg.row as usize >= rows)?;
+        deny_unless(self.has_right_count(), LineFault::LegCount)?;
+        self.check_legs(LegFault::WrongSort, |i, leg| self.is_wrong_sort(i, leg))?;
+        self.check_legs(LegFault::RowUsedTwice, |i, leg| self.is_used_before(i, leg))?;
+        self.check_legs(
+            LegFault::OtherSecurity,
+            |_, leg| self.is_other_security(leg),
+        )?;
+        deny_unless(self.has_right_class(), LineFault::ClassNotAdmitted)?;
+        deny_unless(self.has_right_lots(), LineFault::LotsDoNotMatch)?;
+        self.check_legs(LegFault::EndsTooEarly, |i, leg| self.ends_too_early(i, leg))?;
+        deny_unless(self.has_right_strikes(), LineFault::StrikesBreakRule)
+    }
 }
 
 /// Tells the first rule that a line breaks.
-pub fn check_line(line: &Line, rows: &[Row], securities: &[Security]) -> Result<(), LineFault>
-    ensures value { result ≡ line_checked rows.now securities.now line.now }
-    ensures lawful { PassesLawful rows.now securities.now line.now result }
+pub fn check_line(line: &Line, listings: Listings<'_>) -> Result<(), LineFault>
+    ensures value { result ≡ line_checked listings.entry.rows.now listings.entry.securities.now line.now }
+    ensures lawful { PassesLawful listings.entry.rows.now listings.entry.securities.now line.now result }
 {
-    check_rules(line.kind, &line.legs, rows, securities)
+    LineInBook { line, listings }.check_rules()
 }
 
 /// Tests the lines of a sheet in turn, and tells the first that breaks a rule.
-pub fn check_lines(sheet: &[Line], rows: &[Row], securities: &[Security]) -> Result<(), SheetFault>
-    ensures value { result ≡ sheet_checked rows.now securities.now sheet.now }
-    ensures lawful { PassesAllLawful rows.now securities.now sheet.now result }
+#[tactic(auto, using(std::proofs::lemmas::List::at_drop_all))]
+pub fn check_lines(sheet: &[Line], listings: Listings<'_>) -> Result<(), SheetFault>
+    ensures value { result ≡ sheet_checked listings.entry.rows.now listings.entry.securities.now sheet.now }
+    ensures lawful { PassesAllLawful listings.entry.rows.now listings.entry.securities.now sheet.now result }
 {
+    // Stays: the product prescribes the loop over the lines, and the place added by `?`.
     for (i, line) in sheet.iter().enumerate() {
-        at(i, check_line(line, rows, securities))?;
+        check_line(line, listings).map_err(|fault| (i as u64, fault))?;
     }
     Ok(())
 }

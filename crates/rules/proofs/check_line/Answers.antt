@@ -1,9 +1,6 @@
-use Rattle.rules.proofs.Lawfuls.{passes-lawful}
+use Rattle.rules.proofs.Lawfuls.{passes_lawful}
 use Rattle.rules.proofs.check_line.Goals as goal
 
-pub returns : goal.returns
-returns c =
-    record {
-      value = c.check_rules.ensures;
-      lawful = passes-lawful c.args.rows.now c.args.securities.now c.args.line.now c.check_rules.result c.check_rules.ensures;
-    }
+pub returns-clause-lawful : goal.returns-clause-lawful
+returns-clause-lawful c =
+    passes_lawful c.args.listings.rows.now c.args.listings.securities.now c.args.line.now c.check_rules.result c.check_rules.ensures

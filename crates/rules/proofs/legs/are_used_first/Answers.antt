@@ -1,13 +1,14 @@
-use Rattle.rules.proofs.Loops.{first-yes, first_more, first-all}
+use Rattle.std.proofs.Common.{not, ◌∙◌, rules}
+use Rattle.std.proofs.lemmas.Iterator.{YieldsList-from_slice}
+use Rattle.std.proofs.lemmas.Iterator.Adapters.{YieldsList-from_skip_while}
+use Rattle.std.proofs.lemmas.Iterator.Search.{all_from_yields_List}
+use Rattle.rules.specs.Legs.{used}
+use Rattle.rules.proofs.Chains.{first_all}
 use Rattle.rules.proofs.legs.are_used_first.Goals as goal
 
-pub returns-then-is_misplaced : goal.returns-then-is_misplaced
-returns-then-is_misplaced c =
-    first-yes c.args.legs.now c.loop-leg.leg-index c.loop-leg.after_used c.loop-leg.invariant c.loop-leg-test.true c.if-is_misplaced.ensures
-
-pub loop-leg-preserved : goal.loop-leg-preserved
-loop-leg-preserved c =
-    first_more c.args.legs.now c.loop-leg.leg-index c.loop-leg.after_used c.loop-leg.invariant _ c.loop-leg-test.true c.if-is_misplaced.ensures c.is_used-after_used.ensures
-
 pub returns : goal.returns
-returns c = first-all c.args.legs.now c.loop-leg.leg-index c.loop-leg.after_used c.loop-leg.invariant c.loop-leg-test.false
+returns c =
+    all_from_yields_List (λ leg. not (used leg)) _ _ _ c.all.ensures.ran
+    (YieldsList-from_skip_while _ _ _ used _ (λ x b q k. search rules) (YieldsList-from_slice c.args.legs.now (cc)) c.skip_while.ensures.closure c.skip_while.ensures.done_skipping)
+    (λ x b q k. search rules)
+    ∙ first_all c.args.legs.now
