@@ -1,17 +1,17 @@
 -- What the next day keeps true.
 use Rattle.std.proofs.Common.{◌≡◌, ℕ, ◌<◌, Bool, true, false, ◌||◌, ltb, List, ◌∷◌, pos, ◌+ℤ◌, Some, None, Ok, Option, sym, refl, ap, ◌∙◌, ap₂, ⊎_elim, arith}
+use Rattle.std.proofs.Math.ListN.{get_or-map}
+use Rattle.std.proofs.Math.IntN.{+ℤ_idr}
 use Rattle.std.proofs.lemmas.Bool.{ltb-true, ltb-false, le-ltb, cases_Bool, or_cases, cond-true, cond-false, cond_both}
 use Rattle.terms.specs.declared.holdings.Row.{Row}
 use Rattle.lines.specs.Lots.{fitting}
 use Rattle.lines.specs.Broken.{sparing}
 use Rattle.terms.specs.Holdings.{no_row, contract_last_day, has_ended, ended_at, closed}
-use Rattle.book.specs.declared.slips.TradingSlip.{TradingSlip}
-use Rattle.book.specs.declared.slips.ValuingSlip.{ValuingSlip}
+use Rattle.book.specs.Slips.{TradingSlip, ValuingSlip}
 use Rattle.book.specs.Calls.{State, on_day}
 use Rattle.book.specs.History.{Event, day_opened, bought_less_sold, last_day_of, passed, lots_of}
-use Rattle.book.proofs.Places.{map_at}
 use Rattle.book.proofs.Grouped.{fitting-sparing, fitting-spared}
-use Rattle.book.proofs.Kept.{Kept, at, plus-zero}
+use Rattle.book.proofs.Kept.{Kept, at}
 
 -- what has ended stays ended
 pub ended-later : (n : Option ℕ) (day later : ℕ) → day < later → has_ended n later ≡ false → has_ended n day ≡ false
@@ -31,7 +31,7 @@ closed-contract d row =
 
 module _ (h : List Event) (s : State) (slip : ValuingSlip) (d : ℕ) (next : TradingSlip) (later : s.day < d) (kept : Kept h s) where
   here : (i : ℕ) → at (on_day s d) i ≡ closed d (at s i)
-  here i = map_at (closed d) s.rows i no_row
+  here i = get_or-map (closed d) s.rows i no_row
 
   same-contract : (i : ℕ) → (at (on_day s d) i).contract ≡ (at s i).contract
   same-contract i = ap (λ r. r.contract) (here i) ∙ closed-contract d (at s i)
@@ -51,7 +51,7 @@ module _ (h : List Event) (s : State) (slip : ValuingSlip) (d : ℕ) (next : Tra
   lots-live i e =
       kept.nets i
       ∙ (cond-false (passed (last_day_of i h) h) (pos 0) (bought_less_sold i h) (kept.past i ∙ ended-later (contract_last_day (at s i).contract) s.day d later e)
-      ∙ (sym (plus-zero (bought_less_sold i h))
+      ∙ (sym (+ℤ_idr (bought_less_sold i h))
       ∙ sym (cond-false (has_ended (last_day_of i h) d || passed (last_day_of i h) h) (pos 0) (bought_less_sold i h +ℤ pos 0) (passed-now i ∙ e))))
 
   pub kept-dayed : Kept (day_opened slip d (Ok next) ∷ h) (on_day s d)

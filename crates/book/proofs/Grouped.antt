@@ -1,5 +1,6 @@
 -- Grouped lots, where lines are broken.
 use Rattle.std.proofs.Common.{◌≡◌, ℕ, ◌≤◌, Bool, true, false, not, ◌&&◌, eqb, ltb, List, [], ◌∷◌, ℤ, sum_by, sym, refl, ap, ◌∙◌, ⊎_elim, le_refl, arith}
+use Rattle.std.proofs.lemmas.List.Filters.{sum_by-filter_both}
 use Rattle.std.proofs.lemmas.List.Sums.{sum_by-cons}
 use Rattle.std.proofs.lemmas.Bool.{cond_both, cases_Bool, both_ways, eqb-true, not-true, or_parts, or_from, and_cases, and_left, and_right}
 use Rattle.std.proofs.lemmas.Bool.Decides.{nat_tests}
@@ -18,11 +19,7 @@ without-le f k row (x ∷ xs) =
     (λ _. omega (arith, sum_by-cons f x xs, ih)) (λ _. omega (arith, sum_by-cons f x xs, sum_by-cons f x (without k row xs), ih))
 
 pub sparing-le : (f : Line → ℕ) (has : ℕ → Bool) (xs : List Line) → sum_by f (sparing has xs) ≤ sum_by f xs
-sparing-le f has [] = le_refl 0
-sparing-le f has (x ∷ xs) =
-    let ih = sparing-le f has xs in
-    cond_both (not (uses_any has x)) (x ∷ sparing has xs) (sparing has xs) (λ ys. sum_by f ys ≤ sum_by f (x ∷ xs))
-    (λ _. omega (arith, sum_by-cons f x xs, sum_by-cons f x (sparing has xs), ih)) (λ _. omega (arith, sum_by-cons f x xs, ih))
+sparing-le f has xs = omega (arith, sum_by-filter_both (uses_any has) (λ line. not (uses_any has line)) (λ line. refl) f xs)
 
 -- fewer lots fit where more did
 pub fits-less : (net : ℤ) (h w h' w' : ℕ) → h ≤ h' → w ≤ w' → fits net h' w' ≡ true → fits net h w ≡ true

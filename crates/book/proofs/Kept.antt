@@ -1,7 +1,7 @@
 -- What each call keeps true of a book and the history that led to it.
-use Rattle.std.proofs.Common.{◌≡◌, ℕ, ◌<◌, true, false, cond, ◌||◌, eqb, List, [], ◌∷◌, length, get_or, ℤ, pos, ◌+ℤ◌, Some, None, Option, sym, refl, ap, ◌∙◌, subst, ap₂, ⊎_elim, arith}
+use Rattle.std.proofs.Common.{◌≡◌, ℕ, ◌<◌, true, false, cond, ◌||◌, eqb, List, [], ◌∷◌, length, get_or, pos, ◌+ℤ◌, Some, None, Option, sym, refl, ap, ◌∙◌, subst, ap₂, ⊎_elim, arith}
+use Rattle.std.proofs.Math.IntN.{+ℤ_idr}
 use Rattle.std.proofs.lemmas.List.{get_or_push, get_or_past}
-use Rattle.std.proofs.lemmas.Int.{ints}
 use Rattle.std.proofs.lemmas.Bool.{le-ltb, leb-false, eq-eqb, ne_eqb, cases_eq, cases_Bool, both_ways, cond-true, cond-false}
 use Rattle.terms.specs.declared.holdings.Row.{Row}
 use Rattle.lines.specs.Lots.{fitting}
@@ -32,9 +32,6 @@ kept-opened o = record {
   fits = λ i. refl;
 }
 
-pub plus-zero : (z : ℤ) → z +ℤ pos 0 ≡ z
-plus-zero z = omega (arith, ints)
-
 -- an event that adds no lots, lists no row, brings no day and breaks no line
 pub record Idle (h : List Event) (e : Event) : Type 0 where
   pub lots : (i : ℕ) → adds i e ≡ pos 0
@@ -56,7 +53,7 @@ passed-idle : (h : List Event) (e : Event) → ((n : Option ℕ) → brings n e 
 passed-idle h e d n = ap (λ b. b || passed n h) (d n)
 
 pub bought-idle : (h : List Event) (e : Event) (i : ℕ) → adds i e ≡ pos 0 → bought_less_sold i (e ∷ h) ≡ bought_less_sold i h
-bought-idle h e i a = ap (λ z. bought_less_sold i h +ℤ z) a ∙ plus-zero (bought_less_sold i h)
+bought-idle h e i a = ap (λ z. bought_less_sold i h +ℤ z) a ∙ +ℤ_idr (bought_less_sold i h)
 
 pub kept-idle : (h : List Event) (e : Event) (s s' : State) → Idle h e → Alike s s' → Kept h s → Kept (e ∷ h) s'
 kept-idle h e s s' idle alike k = record {

@@ -15,8 +15,7 @@ use Rattle.denials.specs.declared.book.Figure.TheVariants as figures
 use Rattle.denials.specs.declared.book.BookFault.{BookFault}
 use Rattle.denials.specs.declared.book.BookFault.TheVariants.{OutOfLimits, NoSuchRow, LastDayPast, RowEnds, NetTooFar, DepositBelowZero}
 use Rattle.terms.specs.Holdings.{no_row, contract_last_day, is_over}
-use Rattle.book.specs.declared.slips.TradingSlip.{TradingSlip}
-use Rattle.book.specs.declared.slips.ValuingSlip.{ValuingSlip}
+use Rattle.book.specs.Slips.{TradingSlip, ValuingSlip, slip_of}
 use Rattle.book.specs.Tables.{has_security, room_for_row, unlisted, row_at, series_of, series_at, repriced}
 use Rattle.book.specs.Calls.{State, figure, denied_if, is_zero, is_far, is_owed, for_valuing, new_security, new_row, new_series, new_term, new_price, new_premium, new_net, new_day, for_trading, with_premium, moved, with_security, with_row, with_rows, with_securities, ended, on_day, Traded}
 use Rattle.book.specs.History.{Event, security_listed, series_listed, term_listed, price_quoted, premium_quoted, traded, session_ended, day_opened, Settles}
@@ -32,7 +31,7 @@ figure-is within n position what m e = go (within n) refl (OutOfLimits position 
   where
     go : (b : Bool) → within n ≡ b → (fault : BookFault) → ok_or (cond b (Some n) None) fault ≡ Ok m → (within n ≡ true) × (m ≡ n)
     go true q fault p = (q, cc)
-    go false q fault p = let z : ◌≡◌ {A = ℕ} 0 1 = cc in absurd (omega arith)
+    go false q fault p = absurd cc
 
 ok-is : {X : Type 0} (x y : X) → ◌≡◌ {A = Result X BookFault} (Ok x) (Ok y) → x ≡ y
 ok-is x y e = cc
@@ -92,9 +91,9 @@ kept-term h s slip security price last guarantee row k e =
 
 -- a contract that is a series
 series-is : (i : ℕ) (contract : Contract) (series : series.Series) → series_of i contract ≡ Ok series → contract ≡ Series series
-series-is i Deposit series e = let z : ◌≡◌ {A = ℕ} 0 1 = cc in absurd (omega arith)
+series-is i Deposit series e = absurd cc
 series-is i (Series one) series e = cc
-series-is i (Term one) series e = let z : ◌≡◌ {A = ℕ} 0 1 = cc in absurd (omega arith)
+series-is i (Term one) series e = absurd cc
 
 -- another premium: the last days and the nets stay
 alike-premium : (s : State) (n premium : ℕ) (series : series.Series) → series_at s.rows n ≡ Ok series → Alike s (with_rows s (repriced s.rows n (with_premium series premium)))
@@ -103,7 +102,7 @@ alike-premium s n premium series e = record { last = λ i. (same i).0; nets = λ
     within : n < length s.rows
     within =
         ⊎_elim (λ lt. lt)
-        (λ le. let p = series-is n Deposit series (sym (ap (λ r. series_of n r.contract) (get_or_past s.rows n no_row le)) ∙ e) in let z : ◌≡◌ {A = ℕ} 0 1 = cc in absurd (omega arith))
+        (λ le. let p = series-is n Deposit series (sym (ap (λ r. series_of n r.contract) (get_or_past s.rows n no_row le)) ∙ e) in absurd cc)
         (cases_lt n (length s.rows))
 
     same : (i : ℕ) → (contract_last_day (at (with_rows s (repriced s.rows n (with_premium series premium))) i).contract ≡ contract_last_day (at s i).contract)
@@ -148,13 +147,13 @@ kept-trade h s s' slip n lots row k kept e t =
     (sym is ∙ ap (λ r. moved r lots) (sym at_n.1)) t.broken kept)
 
 kept_next : (h : List Event) (s : State) (slip : ValuingSlip) (day d : ℕ) → Kept h s → new_day s slip day ≡ Ok d
-    → Kept (day_opened slip day (Ok (record { book = s.number; day = d })) ∷ h) (on_day s d)
+    → Kept (day_opened slip day (Ok (slip_of s.number d)) ∷ h) (on_day s d)
 kept_next h s slip day d k e =
     let a = passed_first (for_valuing s slip) _ d e in
     let f = figure-is (λ n. is_day n && ltb s.day n) day 0 figures.NextDay d a.2 in
     let later = ltb-true s.day day (and_parts (is_day day) (ltb s.day day) f.0).1 in
-    subst (λ n. Kept (day_opened slip day (Ok (record { book = s.number; day = n })) ∷ h) (on_day s n)) (sym f.1)
-    (kept-dayed h s slip day (record { book = s.number; day = day }) later k)
+    subst (λ n. Kept (day_opened slip day (Ok (slip_of s.number n)) ∷ h) (on_day s n)) (sym f.1)
+    (kept-dayed h s slip day (slip_of s.number day) later k)
 
 -- a denied call
 idle-denied : (h : List Event) (e : Event) (s : State) → Idle h e → Kept h s → Kept (e ∷ h) s
@@ -192,6 +191,6 @@ kept_step h (session_ended slip r) s s' k st =
     (record { last = λ i. refl; nets = λ i. refl; day = refl; lines = refl }) k)
     (λ fault. idle-denied h _ s (record { lots = λ i. refl; last = λ i. refl; day = λ m. refl; lines = refl }) k) r s' st
 kept_step h (day_opened slip day r) s s' k st =
-    settled_case (λ r after. Kept (day_opened slip day r ∷ h) after) (new_day s slip day) (λ d. record { book = s.number; day = d }) (on_day s) s
+    settled_case (λ r after. Kept (day_opened slip day r ∷ h) after) (new_day s slip day) (λ d. slip_of s.number d) (on_day s) s
     (λ d e. kept_next h s slip day d k e)
     (λ fault. idle-denied h _ s (record { lots = λ i. refl; last = λ i. refl; day = λ m. refl; lines = refl }) k) r s' st

@@ -1,17 +1,18 @@
 -- What a trade keeps true.
 use Rattle.std.proofs.Common.{◌≡◌, ℕ, ◌<◌, false, cond, eqb, List, ◌∷◌, length, set, ℤ, pos, ◌+ℤ◌, Ok, sym, refl, ap, ◌∙◌, ap₂, ⊎_elim}
+use Rattle.std.proofs.Math.IntN.{+ℤ_idr}
 use Rattle.std.proofs.lemmas.List.{get_or-set_same, get_or-set_other}
 use Rattle.std.proofs.lemmas.Bool.{eq-eqb, ne_eqb, cases_eq, cond-true, cond-false}
 use Rattle.terms.specs.declared.holdings.Row.{Row}
 use Rattle.lines.specs.Lots.{fitting}
 use Rattle.lines.specs.Broken.{without, Broken}
 use Rattle.terms.specs.Holdings.{no_row, contract_last_day, is_over, has_ended}
-use Rattle.book.specs.declared.slips.TradingSlip.{TradingSlip}
+use Rattle.book.specs.Slips.{TradingSlip}
 use Rattle.terms.specs.declared.strategy.Line.{Line}
 use Rattle.book.specs.Calls.{State, moved}
 use Rattle.book.specs.History.{Event, traded, bought_less_sold, last_day_of, passed, lots_of}
 use Rattle.book.proofs.Grouped.{fitting-without}
-use Rattle.book.proofs.Kept.{Kept, at, over-ended, plus-zero}
+use Rattle.book.proofs.Kept.{Kept, at, over-ended}
 
 abbrev after : State → ℕ → Row → List Line → State
 after s n row left = record {
@@ -52,7 +53,7 @@ module _ (h : List Event) (s : State) (slip : TradingSlip) (n : ℕ) (lots : ℤ
   other-net : (i : ℕ) → (i ≡ n → ⊥) → lots_of i h ≡ lots_of i (traded slip n lots (Ok k) ∷ h)
   other-net i q =
       ap (λ z. cond (passed (last_day_of i h) h) (pos 0) z)
-      (sym (ap (λ z. bought_less_sold i h +ℤ z) (cond-false (eqb n i) lots (pos 0) (ne_eqb n i (λ p. q (sym p)))) ∙ plus-zero (bought_less_sold i h)))
+      (sym (ap (λ z. bought_less_sold i h +ℤ z) (cond-false (eqb n i) lots (pos 0) (ne_eqb n i (λ p. q (sym p)))) ∙ +ℤ_idr (bought_less_sold i h)))
 
   pub kept-traded : Kept (traded slip n lots (Ok k) ∷ h) (after s n row left)
   kept-traded = record {

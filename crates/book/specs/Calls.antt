@@ -18,8 +18,7 @@ use Rattle.denials.specs.declared.book.BookFault.{BookFault}
 use Rattle.denials.specs.declared.book.BookFault.TheVariants.{Stale, OutOfLimits, LastDayPast, RowEnds, NetTooFar, DepositBelowZero}
 use Rattle.lines.specs.Broken.{Broken, sparing}
 use Rattle.terms.specs.Holdings.{contract_last_day, is_over, ended_at, closed}
-use Rattle.book.specs.declared.slips.TradingSlip.{TradingSlip}
-use Rattle.book.specs.declared.slips.ValuingSlip.{ValuingSlip}
+use Rattle.book.specs.Slips.{TradingSlip, ValuingSlip, slip_of}
 use Rattle.book.specs.Tables.{has_security, room_for_security, room_for_row, row_at, series_at, requoted, repriced, unlisted}
 
 -- what a book holds; a book that was never opened has no stage
@@ -40,25 +39,25 @@ and_then (Err fault) next = Err fault
 abbrev pub denied_if : Bool → BookFault → Result (Unit {0}) BookFault
 denied_if wrong fault = cond wrong (Err fault) (Ok tt)
 
--- the book is in trading
-abbrev pub in_trading : Option Stage → Bool
-in_trading None = false
-in_trading (Some Trading) = true
-in_trading (Some Valuing) = false
+-- the book is in a stage
+abbrev pub is_in : Option Stage → Stage → Bool
+is_in None stage = false
+is_in (Some Trading) Trading = true
+is_in (Some Trading) Valuing = false
+is_in (Some Valuing) Trading = false
+is_in (Some Valuing) Valuing = true
 
--- the book is in valuing
-abbrev pub in_valuing : Option Stage → Bool
-in_valuing None = false
-in_valuing (Some Trading) = false
-in_valuing (Some Valuing) = true
+-- a slip of a stage has the book's number and day, and the book is in the stage
+abbrev pub admits : Stage → State → (book day : ℕ) → Result (Unit {0}) BookFault
+admits stage s book day = cond (is_in s.stage stage && (book == s.number && day == s.day)) (Ok tt) (Err Stale)
 
 -- a trading slip has the book's number and day, and the book is in trading
 abbrev pub for_trading : State → TradingSlip → Result (Unit {0}) BookFault
-for_trading s slip = cond (in_trading s.stage && (slip.book == s.number && slip.day == s.day)) (Ok tt) (Err Stale)
+for_trading s slip = admits Trading s slip.book slip.day
 
 -- a valuing slip has the book's number and day, and the book is in valuing
 abbrev pub for_valuing : State → ValuingSlip → Result (Unit {0}) BookFault
-for_valuing s slip = cond (in_valuing s.stage && (slip.book == s.number && slip.day == s.day)) (Ok tt) (Err Stale)
+for_valuing s slip = admits Valuing s slip.book slip.day
 
 -- an argument within its limits
 abbrev pub figure : (ℕ → Bool) → ℕ → ℕ → Figure → Result ℕ BookFault
@@ -182,7 +181,7 @@ opened o = record { number = o.number; day = o.day; stage = Some Trading; securi
 
 -- the slip that opening gives
 abbrev pub first_slip : Opening → TradingSlip
-first_slip o = record { book = o.number; day = o.day }
+first_slip o = slip_of o.number o.day
 
 -- the book with one security more, and its deposit row
 abbrev pub with_security : State → Security → State

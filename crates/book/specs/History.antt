@@ -7,8 +7,7 @@ use Rattle.denials.specs.declared.book.BookFault.{BookFault}
 use Rattle.lines.specs.Broken.{without, sparing}
 use Rattle.terms.specs.Holdings.{has_ended}
 use Rattle.book.specs.declared.ledger.Listed.{Listed}
-use Rattle.book.specs.declared.slips.TradingSlip.{TradingSlip}
-use Rattle.book.specs.declared.slips.ValuingSlip.{ValuingSlip}
+use Rattle.book.specs.Slips.{TradingSlip, ValuingSlip, slip_of}
 use Rattle.book.specs.Calls.{State, new_security, new_series, new_term, new_price, new_premium, new_net, for_trading, new_day, with_security, with_row, with_securities, with_rows, ended, on_day, Settled, Trades}
 
 -- a call with its slip and arguments, and its answer
@@ -37,9 +36,9 @@ Settles s (premium_quoted slip row premium r) s' =
 Settles s (traded slip row lots r) s' =
     Trades (new_net s slip row lots) row s r s'
 Settles s (session_ended slip r) s' =
-    Settled (for_trading s slip) (λ _. record { book = s.number; day = s.day }) (λ _. ended s) s r s'
+    Settled (for_trading s slip) (λ _. slip_of s.number s.day) (λ _. ended s) s r s'
 Settles s (day_opened slip day r) s' =
-    Settled (new_day s slip day) (λ d. record { book = s.number; day = d }) (on_day s) s r s'
+    Settled (new_day s slip day) (λ d. slip_of s.number d) (on_day s) s r s'
 
 -- a history, the newest event first, leads from one book to another: each call is settled in its turn, whatever its slip and arguments
 pub data Led (s₀ : State) : List Event → State → Type 0 where

@@ -1,3 +1,4 @@
+pub mod Slips
 pub mod Tables
 pub mod Calls
 pub mod History

@@ -1,5 +1,6 @@
 -- The tables of securities and rows: what is found in them, and what they are with an entry changed.
-use Rattle.std.specs.Prelude.{ℕ, ◌+◌, cond, List, [], ◌∷◌, length, get_or, Some, None, Ok, Err, Option, Result, nat_lt, slice_index_or, slice_set}
+use Rattle.std.specs.Prelude.{ℕ, cond, List, length, get_or, Some, None, Ok, Err, Result, nat_lt, slice_index_or, slice_set}
+use Rattle.std.specs.List.{position}
 use Rattle.terms.specs.declared.holdings.Security.{Security}
 use Rattle.terms.specs.declared.holdings.Series as series
 use Rattle.terms.specs.declared.holdings.Contract.{Contract}
@@ -42,14 +43,9 @@ requoted securities i close =
     let old = get_or securities i no_security in
     slice_set securities i (record { class = old.class; lot_size = old.lot_size; close = close })
 
--- the first of the rows that equals one, the first of them having the number i
-abbrev pub first_same : Row → ℕ → List Row → Option ℕ
-first_same row i [] = None
-first_same row i (other ∷ rows) = cond (same_row row other) (Some i) (first_same row (i + 1) rows)
-
 -- nothing, where no row is equal
 abbrev pub unlisted : List Row → Row → Result (Unit {0}) BookFault
-unlisted rows row = elim (first_same row 0 rows) [ None ↦ Ok tt | Some i ↦ Err (AlreadyListed i) ]
+unlisted rows row = elim (position (same_row row) rows) [ None ↦ Ok tt | Some i ↦ Err (AlreadyListed i) ]
 
 -- the rows with another series in the place of one
 abbrev pub repriced : List Row → ℕ → series.Series → List Row

@@ -1,5 +1,5 @@
 -- A book as its callers see it.
-use Rattle.std.specs.Prelude.{Ok, Err, vec_items, Result}
+use Rattle.std.specs.Prelude.{Ok, Err, Result}
 use Rattle.denials.specs.declared.book.BookFault.{BookFault}
 use Rattle.book.specs.declared.ledger.Book.{Book}
 use Rattle.book.specs.declared.slips.Denied.{Denied}
@@ -11,9 +11,9 @@ view book = record {
   number = book.number;
   day = book.day;
   stage = book.stage;
-  securities = vec_items book.securities.items;
-  rows = vec_items book.rows.items;
-  lines = vec_items book.lines.items;
+  securities = book.securities.listed.items;
+  rows = book.rows.listed.items;
+  lines = book.lines;
 }
 
 -- the answer to a call that takes a slip, without the slip that a denial hands back

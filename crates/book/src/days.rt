@@ -1,38 +1,35 @@
 // The days of a book: opening, the end of a session, and the next day.
-ghost use Rattle.std.specs.Prelude.{◌≡◌, IfOk, IfErr};
+ghost use Rattle.std.specs.Prelude.{◌≡◌, IfErr};
 ghost use Rattle.book.specs.Calls.{Settled, unopened, opening, opened, first_slip, new_day};
 ghost use Rattle.book.specs.History.{session_ended, day_opened};
 ghost use Rattle.book.specs.Promise.{Call};
+ghost use Rattle.book.specs.Slips.{slip_of};
 ghost use Rattle.book.specs.View.{view, answered};
 
 use crate::checks::outside;
-use crate::ended::EndedRows;
 use crate::ledger::Book;
 use crate::rows::Rows;
 use crate::securities::Securities;
-use crate::slips::{Denied, TradingSlip, ValuingSlip};
+use crate::slips::{Denied, InTrading, InValuing, Slip, TradingSlip, ValuingSlip};
 use denials::book::{BookFault, Figure};
 use lines::table::Lines;
-use std::alloc::{AllocError, Global};
-use terms::limits;
+use std::marker::PhantomData;
+use terms::limits::{BookNumber, Day, limited};
 use terms::stage::Stage;
 
 impl Book {
-    /// A book that is yet to be opened. All memory that it will ever want is taken here.
-    pub fn new(heap: Global) -> Result<Book, AllocError>
-        ensures { IfOk result (λ book. view book ≡ unopened) }
+    /// A book that is yet to be opened.
+    pub fn new() -> Book
+        ensures { view result ≡ unopened }
     {
-        let securities = Securities::new(heap)?;
-        let rows = Rows::new(heap)?;
-        let lines = Lines::new(heap)?;
-        Ok(Book {
+        Book {
             number: 0,
             day: 0,
             stage: None,
-            securities,
-            rows,
-            lines,
-        })
+            securities: Securities::default(),
+            rows: Rows::default(),
+            lines: Lines::new(),
+        }
     }
 
     /// The book's number.
@@ -53,15 +50,26 @@ impl Book {
     pub fn open(&mut self, number: u64, day: u64) -> Result<TradingSlip, BookFault>
         ensures { Settled (opening number day) first_slip opened (view self.old) result (view self.new) }
     {
-        let number = limits::book_number(number).ok_or(outside(0, Figure::BookNumber))?;
-        let day = limits::day(day).ok_or(outside(1, Figure::Day))?;
+        let number = limited::<BookNumber>(number).ok_or(outside(0, Figure::BookNumber))?;
+        let day = limited::<Day>(day).ok_or(outside(1, Figure::Day))?;
         self.number = number;
         self.day = day;
         self.stage = Some(Stage::Trading);
-        self.securities.clear();
-        self.rows.clear();
+        self.securities.listed.clear();
+        self.rows.listed.clear();
         self.lines.clear();
-        Ok(TradingSlip { book: number, day })
+        Ok(self.slip::<InTrading>())
+    }
+
+    /// The slip of the book's number and day.
+    fn slip<S>(&self) -> Slip<S>
+        ensures { result ≡ slip_of self.now.number self.now.day }
+    {
+        Slip {
+            book: self.number,
+            day: self.day,
+            stage: PhantomData,
+        }
     }
 
     /// Ends the session: the trading slip is given up for a valuing one.
@@ -69,26 +77,18 @@ impl Book {
         ensures call { Call (view self.old) (session_ended slip (answered result)) (view self.new) }
         ensures back { IfErr result (λ denied. denied.slip ≡ slip) }
     {
-        match self.for_trading(&slip) {
-            Ok(()) => {
-                self.stage = Some(Stage::Valuing);
-                Ok(ValuingSlip {
-                    book: self.number,
-                    day: self.day,
-                })
-            }
-            Err(fault) => Err(Denied { slip, fault }),
-        }
+        self.admits(&slip).map_err(|fault| Denied { slip, fault })?;
+        self.stage = Some(Stage::Valuing);
+        Ok(self.slip::<InValuing>())
     }
 
     fn new_day(&self, slip: &ValuingSlip, day: u64) -> Result<u32, BookFault>
         ensures { result ≡ new_day (view self.now) slip.now day }
     {
-        self.for_valuing(slip)?;
-        match limits::day(day) {
-            Some(day) if self.day < day => Ok(day),
-            _ => Err(outside(0, Figure::NextDay)),
-        }
+        self.admits(slip)?;
+        limited::<Day>(day)
+            .filter(|day| self.day < *day)
+            .ok_or(outside(0, Figure::NextDay))
     }
 
     /// Opens a later day: breaks every line that uses a row whose last day is before it, and then clears those rows' nets. The
@@ -101,21 +101,14 @@ impl Book {
         ensures call { Call (view self.old) (day_opened slip day (answered result)) (view self.new) }
         ensures back { IfErr result (λ denied. denied.slip ≡ slip) }
     {
-        match self.new_day(&slip, day) {
-            Ok(day) => {
-                self.lines.break_users(&EndedRows {
-                    rows: self.rows.as_slice(),
-                    day,
-                });
-                self.rows.close(day);
-                self.day = day;
-                self.stage = Some(Stage::Trading);
-                Ok(TradingSlip {
-                    book: self.number,
-                    day,
-                })
-            }
-            Err(fault) => Err(Denied { slip, fault }),
-        }
+        let day = self
+            .new_day(&slip, day)
+            .map_err(|fault| Denied { slip, fault })?;
+        let rows = &self.rows;
+        self.lines.break_users(|row| rows.has_ended(row, day));
+        self.rows.close(day);
+        self.day = day;
+        self.stage = Some(Stage::Trading);
+        Ok(self.slip::<InTrading>())
     }
 }

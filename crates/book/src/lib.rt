@@ -3,7 +3,6 @@
 
 mod checks;
 mod days;
-mod ended;
 pub mod ledger;
 mod listing;
 mod quoting;

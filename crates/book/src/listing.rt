@@ -1,6 +1,6 @@
 // Listing: securities, option series and term operations.
-ghost use Rattle.std.specs.Prelude.{◌≡◌, ◌<◌, vec_len, OnOk};
-ghost use Rattle.book.specs.Calls.{new_security, new_series, new_term};
+ghost use Rattle.std.specs.Prelude.{◌≡◌, length};
+ghost use Rattle.book.specs.Calls.{Settled, new_row, with_row};
 ghost use Rattle.book.specs.History.{security_listed, series_listed, term_listed};
 ghost use Rattle.book.specs.Promise.{Call};
 ghost use Rattle.book.specs.View.{view};
@@ -9,33 +9,11 @@ use crate::checks::outside;
 use crate::ledger::{Book, Listed};
 use crate::slips::TradingSlip;
 use denials::book::{BookFault, Figure};
+use terms::OptionType;
 use terms::holdings::{Class, Contract, Row, Security, Series, TermOperation};
-use terms::{OptionType, limits};
+use terms::limits::{self, Day, LotSize, Premium, Price, limited};
 
 impl Book {
-    fn new_security(
-        &self,
-        slip: &TradingSlip,
-        class: Class,
-        lot_size: u64,
-        close: u64,
-    ) -> Result<Security, BookFault>
-        ensures value { result ≡ new_security (view self.now) slip.now class lot_size close }
-        ensures securities { OnOk result (vec_len self.now.securities.items < 16) }
-        ensures rows { OnOk result (vec_len self.now.rows.items < 64) }
-    {
-        self.for_trading(slip)?;
-        let lot_size = limits::lot_size(lot_size).ok_or(outside(1, Figure::LotSize))?;
-        let close = limits::price(close).ok_or(outside(2, Figure::ClosingPrice))?;
-        self.securities.room_for_one()?;
-        self.rows.room_for_one()?;
-        Ok(Security {
-            class,
-            lot_size,
-            close,
-        })
-    }
-
     /// Lists a security and its deposit, each under its next number.
     pub fn list_security(
         &mut self,
@@ -46,42 +24,55 @@ impl Book {
     ) -> Result<Listed, BookFault>
         ensures { Call (view self.old) (security_listed slip.now class lot_size close result) (view self.new) }
     {
-        let security = self.new_security(slip, class, lot_size, close)?;
-        let number = self.securities.push(security);
-        let row = self.rows.push(Row {
-            security: number,
+        self.admits(slip)?;
+        let lot_size = limited::<LotSize>(lot_size).ok_or(outside(1, Figure::LotSize))?;
+        let close = limited::<Price>(close).ok_or(outside(2, Figure::ClosingPrice))?;
+        if self.securities.listed.is_full() {
+            return Err(BookFault::SecuritiesFull);
+        }
+        if self.rows.listed.is_full() {
+            return Err(BookFault::RowsFull);
+        }
+        let security = self.securities.listed.len();
+        let row = self.rows.listed.len();
+        self.securities.listed.push(Security {
+            class,
+            lot_size,
+            close,
+        });
+        self.rows.listed.push(Row {
+            security,
             contract: Contract::Deposit,
             net: 0,
         });
         Ok(Listed {
-            security: number as u64,
+            security: security as u64,
             row: row as u64,
         })
     }
 
-    fn new_series(
-        &self,
-        slip: &TradingSlip,
-        security: u64,
-        option: OptionType,
-        strike: u64,
-        last_day: u64,
-        premium: u64,
-    ) -> Result<Row, BookFault>
-        ensures value { result ≡ new_series (view self.now) slip.now security option strike last_day premium }
-        ensures room { OnOk result (vec_len self.now.rows.items < 64) }
+    /// Lists a contract on a security under the next row.
+    fn list_row(&mut self, security: u64, contract: Contract) -> Result<u64, BookFault>
+        ensures { Settled (new_row (view self.old) security contract) (λ _. length self.old.rows.listed.items) (with_row (view self.old)) (view self.old) result (view self.new) }
     {
-        self.for_trading(slip)?;
-        let strike = limits::price(strike).ok_or(outside(2, Figure::Strike))?;
-        let last_day = limits::day(last_day).ok_or(outside(3, Figure::LastDay))?;
-        let premium = limits::premium(premium).ok_or(outside(4, Figure::Premium))?;
-        let series = Series {
-            option,
-            strike,
-            last_day,
-            premium,
+        let security = self.securities.find(security)?;
+        if self.rows.listed.is_full() {
+            return Err(BookFault::RowsFull);
+        }
+        if contract.is_over(self.day) {
+            return Err(BookFault::LastDayPast);
+        }
+        let row = Row {
+            security,
+            contract,
+            net: 0,
         };
-        self.new_row(security, Contract::Series(series))
+        if let Some(same) = self.rows.first_same(&row) {
+            return Err(BookFault::AlreadyListed { row: same as u64 });
+        }
+        let number = self.rows.listed.len();
+        self.rows.listed.push(row);
+        Ok(number as u64)
     }
 
     /// Lists an option series under the next row.
@@ -96,31 +87,17 @@ impl Book {
     ) -> Result<u64, BookFault>
         ensures { Call (view self.old) (series_listed slip.now security option strike last_day premium result) (view self.new) }
     {
-        let row = self.new_series(slip, security, option, strike, last_day, premium)?;
-        Ok(self.rows.push(row) as u64)
-    }
-
-    fn new_term(
-        &self,
-        slip: &TradingSlip,
-        security: u64,
-        price: u64,
-        last_day: u64,
-        guarantee: u64,
-    ) -> Result<Row, BookFault>
-        ensures value { result ≡ new_term (view self.now) slip.now security price last_day guarantee }
-        ensures room { OnOk result (vec_len self.now.rows.items < 64) }
-    {
-        self.for_trading(slip)?;
-        let price = limits::price(price).ok_or(outside(1, Figure::TermPrice))?;
-        let last_day = limits::day(last_day).ok_or(outside(2, Figure::LastDay))?;
-        let guarantee = limits::guarantee(guarantee).ok_or(outside(3, Figure::Guarantee))?;
-        let term = TermOperation {
-            price,
+        self.admits(slip)?;
+        let strike = limited::<Price>(strike).ok_or(outside(2, Figure::Strike))?;
+        let last_day = limited::<Day>(last_day).ok_or(outside(3, Figure::LastDay))?;
+        let premium = limited::<Premium>(premium).ok_or(outside(4, Figure::Premium))?;
+        let series = Series {
+            option,
+            strike,
             last_day,
-            guarantee,
+            premium,
         };
-        self.new_row(security, Contract::Term(term))
+        self.list_row(security, Contract::Series(series))
     }
 
     /// Lists a term operation under the next row.
@@ -134,7 +111,15 @@ impl Book {
     ) -> Result<u64, BookFault>
         ensures { Call (view self.old) (term_listed slip.now security price last_day guarantee result) (view self.new) }
     {
-        let row = self.new_term(slip, security, price, last_day, guarantee)?;
-        Ok(self.rows.push(row) as u64)
+        self.admits(slip)?;
+        let price = limited::<Price>(price).ok_or(outside(1, Figure::TermPrice))?;
+        let last_day = limited::<Day>(last_day).ok_or(outside(2, Figure::LastDay))?;
+        let guarantee = limits::guarantee(guarantee).ok_or(outside(3, Figure::Guarantee))?;
+        let term = TermOperation {
+            price,
+            last_day,
+            guarantee,
+        };
+        self.list_row(security, Contract::Term(term))
     }
 }

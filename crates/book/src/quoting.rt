@@ -8,7 +8,7 @@ use crate::ledger::Book;
 use crate::slips::TradingSlip;
 use denials::book::{BookFault, Figure};
 use terms::holdings::Series;
-use terms::limits;
+use terms::limits::{Premium, Price, limited};
 
 impl Book {
     /// Replaces a security's closing price.
@@ -20,8 +20,8 @@ impl Book {
     ) -> Result<(), BookFault>
         ensures { Call (view self.old) (price_quoted slip.now security price result) (view self.new) }
     {
-        self.for_trading(slip)?;
-        let close = limits::price(price).ok_or(outside(1, Figure::ClosingPrice))?;
+        self.admits(slip)?;
+        let close = limited::<Price>(price).ok_or(outside(1, Figure::ClosingPrice))?;
         let i = self.securities.find(security)?;
         self.securities.quote(i, close);
         Ok(())
@@ -36,8 +36,8 @@ impl Book {
     ) -> Result<(), BookFault>
         ensures { Call (view self.old) (premium_quoted slip.now row premium result) (view self.new) }
     {
-        self.for_trading(slip)?;
-        let premium = limits::premium(premium).ok_or(outside(1, Figure::Premium))?;
+        self.admits(slip)?;
+        let premium = limited::<Premium>(premium).ok_or(outside(1, Figure::Premium))?;
         let series = self.rows.find_series(row)?;
         self.rows.quote(row as usize, Series { premium, ..series });
         Ok(())

@@ -10,27 +10,22 @@ use terms::holdings::Class;
 
 /// Passes where the call was denied by 1, without a place.
 fn stale<T: Drop>(rt: &impl Abort, answer: Result<T, BookFault>) -> Result<(), Fail> {
-    match answer {
-        Ok(_) => Err(Fail::new("a stale slip was let through")),
-        Err(fault) => {
-            assert_eq!(rt; fault.number(), 1);
-            assert_eq!(rt; fault.place(), Place::Nowhere);
-            Ok(())
-        }
-    }
+    let Err(fault) = answer else {
+        return Err(Fail::new("a stale slip was let through"));
+    };
+    assert_eq!(rt; fault.number(), 1);
+    assert_eq!(rt; fault.place(), Place::Nowhere);
+    Ok(())
 }
 
 fn accepted<T>(answer: Result<T, BookFault>) -> Result<T, Fail> {
-    match answer {
-        Ok(got) => Ok(got),
-        Err(_) => Err(Fail::new("a lawful call was denied")),
-    }
+    answer.map_err(|_| Fail::new("a lawful call was denied"))
 }
 
 #[test]
 fn a_slip_of_another_book_or_day_is_denied(rt: HostRuntime) -> Result<(), Fail> {
-    let mut book = Book::new(rt.alloc())?;
-    let mut other = Book::new(rt.alloc())?;
+    let mut book = Book::new();
+    let mut other = Book::new();
     let slip = accepted(book.open(7, 10))?;
     let of_another_book = accepted(other.open(8, 10))?;
     stale(
@@ -56,7 +51,7 @@ fn a_slip_of_another_book_or_day_is_denied(rt: HostRuntime) -> Result<(), Fail> 
 
 #[test]
 fn a_slip_of_another_stage_is_handed_back(rt: HostRuntime) -> Result<(), Fail> {
-    let mut book = Book::new(rt.alloc())?;
+    let mut book = Book::new();
     let early = accepted(book.open(7, 10))?;
     let slip = accepted(book.open(7, 10))?;
     let Ok(valuing) = book.end_session(slip) else {
@@ -90,8 +85,8 @@ fn a_slip_of_another_stage_is_handed_back(rt: HostRuntime) -> Result<(), Fail> {
 
 #[test]
 fn a_book_that_was_never_opened_takes_no_slip(rt: HostRuntime) -> Result<(), Fail> {
-    let mut book = Book::new(rt.alloc())?;
-    let mut other = Book::new(rt.alloc())?;
+    let mut book = Book::new();
+    let mut other = Book::new();
     let slip = accepted(other.open(0, 1))?;
     stale(&rt, book.list_security(&slip, Class::ListA, 1, 1))?;
     let Err(Denied { slip: _, fault }) = book.end_session(slip) else {

@@ -6,6 +6,7 @@ ghost use Rattle.denials.specs.declared.book.BookFault.TheVariants as book;
 use crate::sheet::SheetFault;
 use std::fmt;
 use terms::denial::{Denial, Layer, Place};
+use terms::limits::{ROWS, SECURITIES};
 
 /// A figure that a call on a book is given.
 #[derive(Clone, Copy)]
@@ -91,8 +92,8 @@ impl Denial for BookFault {
             BookFault::Stale | BookFault::LastDayPast => Place::Nowhere,
             BookFault::OutOfLimits { position, .. } => Place::Number(position),
             BookFault::NoSuchSecurity { security } => Place::Number(security),
-            BookFault::SecuritiesFull => Place::Number(16),
-            BookFault::RowsFull => Place::Number(64),
+            BookFault::SecuritiesFull => Place::Number(SECURITIES as u64),
+            BookFault::RowsFull => Place::Number(ROWS as u64),
             BookFault::NoSuchRow { row }
             | BookFault::NoSuchSeries { row }
             | BookFault::RowEnds { row }

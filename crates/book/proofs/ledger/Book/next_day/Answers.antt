@@ -1,9 +1,9 @@
-use Rattle.std.proofs.Common.{refl, rules}
+use Rattle.std.proofs.Common.{rules}
 use Rattle.book.proofs.Main.{called}
 use Rattle.book.proofs.ledger.Book.next_day.Goals as goal
 
-pub returns-in-Ok : goal.returns-in-Ok
-returns-in-Ok c = record { call = called _ _ _ (search rules); back = tt }
+pub returns-in_err-day-clause-call : goal.returns-in_err-day-clause-call
+returns-in_err-day-clause-call c = called _ _ _ (search rules)
 
-pub returns-in-Err : goal.returns-in-Err
-returns-in-Err c = record { call = called _ _ _ (search rules); back = refl }
+pub returns-clause-call : goal.returns-clause-call
+returns-clause-call c = called _ _ _ (search rules)

@@ -1,19 +1,12 @@
-use Rattle.std.proofs.Common.{set, vec_items, ap, ◌∙◌, arith, rules}
+use Rattle.std.proofs.Common.{get_or, set, ap, ◌∙◌, arith}
+use Rattle.std.proofs.lemmas.List.{get_or_default}
 use Rattle.std.proofs.lemmas.List.Edits.{map_over_more}
-use Rattle.std.proofs.lemmas.List.{take_all, drop_all, append-nil}
-use Rattle.terms.specs.Holdings.{closed}
+use Rattle.terms.specs.Holdings.{no_row, closed}
 use Rattle.book.proofs.rows.Rows.close.Goals as goal
 
-pub loop-i-preserved : goal.loop-i-preserved
-loop-i-preserved c =
-    let rows = vec_items c.loop-i.self.items in
-    let start = c.args.self.now.items.ok.0 in (
-      ap (set rows c.loop-i.i) c.closed.ensures
-          ∙ map_over_more (closed c.args.day) (vec_items c.args.self.now.items) rows c.loop-i.i c.index.result.now (omega arith) c.loop-i.invariant.0 c.index.ensures,
-      c.loop-i.invariant.1,
-    )
-
-pub returns : goal.returns
-returns c =
-    let start = c.args.self.now.items.ok.0 in
-    search (rules, take_all, drop_all, append-nil)
+pub loop-row-preserved : goal.loop-row-preserved
+loop-row-preserved c =
+    let rows = c.loop-row.row-items in
+    let i = c.loop-row.row-index in
+    ap (set rows i) c.closed.ensures
+    ∙ map_over_more (closed c.args.day) c.as_mut_slice-row-items.result.now rows i (get_or rows i no_row) (omega arith) c.loop-row.invariant (get_or_default rows i _ _ (omega arith))
