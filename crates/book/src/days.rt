@@ -7,6 +7,7 @@ ghost use Rattle.book.specs.Slips.{slip_of};
 ghost use Rattle.book.specs.View.{view, answered};
 
 use crate::checks::outside;
+use crate::ended::EndedRows;
 use crate::ledger::Book;
 use crate::rows::Rows;
 use crate::securities::Securities;
@@ -104,8 +105,10 @@ impl Book {
         let day = self
             .new_day(&slip, day)
             .map_err(|fault| Denied { slip, fault })?;
-        let rows = &self.rows;
-        self.lines.break_users(|row| rows.has_ended(row, day));
+        self.lines.break_users(&EndedRows {
+            rows: &self.rows,
+            day,
+        });
         self.rows.close(day);
         self.day = day;
         self.stage = Some(Stage::Trading);

@@ -3,6 +3,7 @@
 
 mod checks;
 mod days;
+mod ended;
 pub mod ledger;
 mod listing;
 mod quoting;

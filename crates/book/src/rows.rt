@@ -45,11 +45,11 @@ impl Rows {
     }
 
     /// Whether the row of a number has ended by the day; one that is not listed has not.
-    pub(crate) fn has_ended(&self, row: u32, day: u32) -> bool
+    pub(crate) fn has_ended(&self, row: usize, day: u32) -> bool
         ensures { result ≡ ended_at self.now.listed.items day row }
     {
         self.listed
-            .get(row as usize)
+            .get(row)
             .is_some_and(|row| row.contract.has_ended(day))
     }
 
