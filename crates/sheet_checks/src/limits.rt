@@ -40,10 +40,8 @@ fn with_leg(row: u32, lots: u32) -> Line {
 
 fn written(day: u64, lines: &[Line], room: usize) -> Result<usize, TextFault> {
     let mut text = [b'?'; 2_600];
-    if room > text.len() {
-        return write(day, lines, &mut text);
-    }
-    write(day, lines, &mut text[0..room])
+    let room = room.min(text.len());
+    write(day, lines, &mut text[..room])
 }
 
 fn legs(out: &mut BufWriter<Stdout>) -> io::Result<()> {

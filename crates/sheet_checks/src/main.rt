@@ -1,6 +1,8 @@
 // Damages texts of sheets in every place, cuts them to every length, and shows what the reader answers.
 #![tactic(auto)]
 
+ghost use Rattle.std.specs.Prelude.{◌<◌};
+
 mod limits;
 
 use limits::show_limits;
@@ -8,9 +10,9 @@ use sheet_text::fault::TextFault;
 use sheet_text::reader::read;
 use sheet_text::writer::write;
 use std::alloc::Global;
-use std::io;
 use std::io::{BufWriter, Stdout, Write};
-use terms::denial::{Denial, Place};
+use std::{array, io, mem};
+use terms::denial::Denial;
 use terms::strategy::{Kind, Leg, Line};
 
 const DAY: u64 = 12;
@@ -26,57 +28,47 @@ const NO_LINE: Line = Line {
     legs: [NONE, NONE, NONE, NONE],
 };
 
-/// What the reader answered: the lines that it read, or the denial's number and place.
-#[derive(Clone, Copy, PartialEq)]
-enum Outcome {
-    Read(usize),
-    Denied(u64, Place),
+/// What the reader answers: how many lines it read, or the denial.
+type Answer = Result<usize, TextFault>;
+
+fn answer_to(text: &[u8]) -> Answer {
+    read(text, DAY, &mut [NO_LINE; 64])
 }
 
-fn answer_to(text: &[u8]) -> Outcome {
-    let mut list = [NO_LINE; 64];
-    match read(text, DAY, &mut list) {
-        Ok(count) => Outcome::Read(count),
-        Err(fault) => Outcome::Denied(fault.number(), fault.place()),
-    }
-}
-
-/// Places that follow one another and have one outcome.
+/// Places that follow one another and have one answer.
 #[derive(Clone, Copy)]
 struct Run {
     from: usize,
     to: usize,
-    outcome: Outcome,
+    answer: Answer,
 }
 
-/// The run so far, longer by a place; or a new one, and the old one where it ends here.
-fn extend(run: &mut Option<Run>, place: usize, outcome: Outcome) -> Option<Run> {
-    let mut next = Run {
-        from: place,
-        to: place,
-        outcome,
-    };
-    let mut ended = *run;
-    if let Some(old) = *run {
-        if old.outcome == outcome {
-            next.from = old.from;
-            ended = None;
+/// Lengthens the run by a place; or begins a new one there, and hands out the old one.
+fn extend(run: &mut Option<Run>, place: usize, answer: Answer) -> Option<Run> {
+    match run {
+        Some(run) if run.answer == answer => {
+            run.to = place;
+            None
         }
+        _ => run.replace(Run {
+            from: place,
+            to: place,
+            answer,
+        }),
     }
-    *run = Some(next);
-    ended
 }
 
 fn show(out: &mut BufWriter<Stdout>, what: &str, run: Option<Run>) -> io::Result<()> {
-    let Some(Run { from, to, outcome }) = run else {
+    let Some(Run { from, to, answer }) = run else {
         return Ok(());
     };
-    match outcome {
-        Outcome::Read(count) => writeln!(out, "{what} {from} to {to}: read {count}"),
-        Outcome::Denied(number, place) => writeln!(
-            out,
-            "{what} {from} to {to}: denied text {number}{place}"
-        ),
+    match answer {
+        Ok(count) => writeln!(out, "{what} {from} to {to}: read {count}"),
+        Err(fault) => {
+            let number = fault.number();
+            let place = fault.place();
+            writeln!(out, "{what} {from} to {to}: denied text {number}{place}")
+        }
     }
 }
 
@@ -116,30 +108,37 @@ const KINDS: [Kind; 7] = [
     Kind::TermSale,
 ];
 
+/// A line of a full sheet, of each kind in turn.
+fn full_line(i: usize) -> Line
+    requires { i < 64 }
+{
+    let number = i as u32;
+    let first = Leg {
+        row: number,
+        lots: number + 1,
+    };
+    let second = Leg {
+        row: 63 - number,
+        lots: 1_000 * (number + 1),
+    };
+    Line {
+        kind: KINDS[i % KINDS.len()],
+        legs: [first, second, NONE, NONE],
+    }
+}
+
 /// As many lines as a sheet can have, of all kinds.
 fn full_sheet(text: &mut [u8]) -> Result<usize, TextFault> {
-    let mut lines = [NO_LINE; 64];
-    for (i, line) in lines.iter_mut().enumerate() {
-        let number = i as u32;
-        line.kind = KINDS[i % 7];
-        line.legs[0] = Leg {
-            row: number,
-            lots: number + 1,
-        };
-        line.legs[1] = Leg {
-            row: 63 - number,
-            lots: 1_000 * (number + 1),
-        };
-    }
+    let lines: [Line; 64] = array::from_fn(|i| full_line(i));
     write(DAY, &lines, text)
 }
 
 /// Each byte of a sheet in turn replaced by another.
 fn damage(out: &mut BufWriter<Stdout>, text: &mut [u8], byte: u8, what: &str) -> io::Result<()> {
     let mut run = None;
+    // Stays: by place, since the whole text is read while one byte of it is another.
     for place in 0..text.len() {
-        let kept = text[place];
-        text[place] = byte;
+        let kept = mem::replace(&mut text[place], byte);
         let ended = extend(&mut run, place, answer_to(text));
         text[place] = kept;
         show(out, what, ended)?;
@@ -160,7 +159,7 @@ fn damage_all(heap: Global, out: &mut BufWriter<Stdout>, text: &mut [u8]) -> io:
 fn cut(out: &mut BufWriter<Stdout>, text: &[u8]) -> io::Result<()> {
     let mut run = None;
     for length in 0..=text.len() {
-        let ended = extend(&mut run, length, answer_to(&text[0..length]));
+        let ended = extend(&mut run, length, answer_to(&text[..length]));
         show(out, "length", ended)?;
     }
     show(out, "length", run)

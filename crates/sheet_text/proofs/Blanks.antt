@@ -1,18 +1,7 @@
 -- Fields that hold spaces alone.
-use Rattle.std.proofs.Common.{◌≡◌, ℕ, zero, suc, ◌+◌, ◌<◌, ◌≤◌, true, false, List, [], ◌∷◌, length, get_or, drop, replicate, sym, refl, ◌∙◌, ⊎_elim, arith}
-use Rattle.std.proofs.lemmas.List.{drop_all, drop_more}
+use Rattle.std.proofs.Common.{◌≡◌, ℕ, zero, suc, true, false, List, [], ◌∷◌, length, replicate, sym, refl, ◌∙◌, ⊎_elim, arith}
 use Rattle.std.proofs.lemmas.Bool.{eq-eqb, ne_eqb, cases_eq}
 use Rattle.sheet_text.specs.Columns.{blank}
-
--- a loop over a field: whether what is left is blank
-pub blank-more : (f : List ℕ) (i : ℕ) → i < length f → get_or f i 0 ≡ 32 → blank (drop i f) ≡ blank (drop (i + 1) f)
-blank-more f i h e = let d = drop_more f i 0 h in rw (d, e)
-
-pub blank-stop : (f : List ℕ) (i : ℕ) → i < length f → (get_or f i 0 ≡ 32 → ⊥) → blank (drop i f) ≡ false
-blank-stop f i h ne = let d = drop_more f i 0 h in rw (d, ne_eqb (get_or f i 0) 32 ne)
-
-pub blank-all : (f : List ℕ) (i : ℕ) → length f ≤ i → blank (drop i f) ≡ true
-blank-all f i h = rw drop_all
 
 pub blank-spaces : (k : ℕ) → blank (replicate k 32) ≡ true
 blank-spaces zero = refl

@@ -1,10 +1,9 @@
 -- A column that the automaton takes is `column` of its number, and it takes each such column.
-use Rattle.std.proofs.Common.{◌≡◌, ℕ, zero, suc, ◌+◌, ◌-◌, ◌*◌, ◌/◌, ◌%◌, ◌^◌, ◌<◌, ◌≤◌, true, false, cond, eqb, ltb, List, [], ◌∷◌, ◌++◌, length, take, drop, set, replicate, None, fold, Option, sym, refl, ap, ◌∙◌, subst, ⊎_elim, append_assoc, append-nil, pow-suc, add-one, arith, length-append, length-set, length-take}
+use Rattle.std.proofs.Common.{Bor, map, ◌≡◌, ℕ, zero, suc, ◌+◌, ◌-◌, ◌*◌, ◌/◌, ◌%◌, ◌^◌, ◌<◌, ◌≤◌, true, false, cond, eqb, ltb, List, [], ◌∷◌, ◌++◌, length, replicate, None, fold, Option, sym, refl, ap, subst, ⊎_elim, append_assoc, append-nil, pow-suc, add-one, arith, length-append}
 use native.Mathlib.Nat.{pow-le-pow_right}
 use lib.ListN.{length-replicate}
 use Rattle.std.proofs.lemmas.List.Sums.{fold_push}
-use Rattle.std.proofs.lemmas.List.{replicate_more, take_all, drop_all, drop-set}
-use borrow.Rule.Slice.PartMut.{post_of}
+use Rattle.std.proofs.lemmas.List.{map-append, length-map, replicate_more}
 use Rattle.std.proofs.lemmas.Bool.{cond_both, eqb-true, lt-ltb, le-ltb, ne_eqb, cases_lt}
 use Rattle.std.proofs.lemmas.Bool.Decides.{nat_tests}
 use Rattle.sheet_text.specs.declared.fields.Seen.{Seen}
@@ -111,16 +110,24 @@ field-exact f p = exact (seen_of f) (good f) refl
     exact (Number n) g e = (g.0, g.1)
     exact Bad g e = λ n h c. absurd (let a = seen-column (length f) n p h in let z : ◌≡◌ {A = ℕ} 0 1 = cc in omega arith)
 
-pub small_at : (f : List ℕ) (i : ℕ) → i < length f → length f ≤ 9 → SmallSeen (seen_of (take i f))
-small_at f i h le = small (seen_of (take i f)) (good (take i f))
+pub small : (bs : List ℕ) → length bs ≤ 8 → SmallSeen (seen_of bs)
+small bs le = go (seen_of bs) (good bs)
   where
-    small : (s : Seen) → Good (length (take i f)) (take i f) s → SmallSeen s
-    small Blank g = tt
-    small (Number n) g =
-        let l : length (take i f) ≤ 8 = simp length-take (omega arith) in
-        let w : 10 ^ length (take i f) ≤ 10 ^ 8 = pow-le-pow_right {n = 10} (omega arith) l in
-        omega (arith, g.1)
-    small Bad g = tt
+    go : (s : Seen) → Good (length bs) bs s → SmallSeen s
+    go Blank g = tt
+    go (Number n) g = let w : 10 ^ length bs ≤ 10 ^ 8 = pow-le-pow_right {n = 10} (omega arith) le in omega (arith, g.1)
+    go Bad g = tt
+
+-- one more byte of those that a fold takes
+pub seen-more : (xs : List (Bor ℕ)) (x : Bor ℕ) (s t : Seen) → s ≡ seen_of (map (λ (b : Bor ℕ). b.now) xs) → t ≡ stepped s x.now → t ≡ seen_of (map (λ (b : Bor ℕ). b.now) (xs ++ (x ∷ [])))
+seen-more xs x s t e f =
+    let m : map (λ (b : Bor ℕ). b.now) (xs ++ (x ∷ [])) ≡ map (λ (b : Bor ℕ). b.now) xs ++ (x.now ∷ []) = map-append (λ (b : Bor ℕ). b.now) xs (x ∷ []) in
+    rw (f, e, m, fold_push stepped Blank (map (λ (b : Bor ℕ). b.now) xs) x.now)
+
+pub small-before : (xs : List (Bor ℕ)) (s : Seen) → s ≡ seen_of (map (λ (b : Bor ℕ). b.now) xs) → length xs < 9 → SmallSeen s
+small-before xs s e h =
+    let n : length (map (λ (b : Bor ℕ). b.now) xs) ≤ 8 = (let e : length (map (λ (b : Bor ℕ). b.now) xs) ≡ length xs = simp length-map in omega arith) in
+    subst SmallSeen (sym e) (small (map (λ (b : Bor ℕ). b.now) xs) n)
 
 pub field_told : (f : List ℕ) (r : Option ℕ) → 0 < length f → r ≡ value_of (seen_of f) → FieldIs f r
 field_told f r p e = let P : Option ℕ → Type 0 = λ o. FieldIs f o in subst P (sym e) (field-exact f p)
@@ -130,33 +137,15 @@ none_from Blank h = refl
 none_from (Number n) h = absurd (h n refl)
 none_from Bad h = refl
 
--- at the end of the loop
-pub seen_all : (f : List ℕ) (i : ℕ) (s : Seen) → s ≡ seen_of (take i f) → length f ≤ i → s ≡ seen_of f
-seen_all f i s e h = rw take_all at e
-
--- a column is written from its last byte
-pub put_one : (xs front : List ℕ) (n v : ℕ) → v ≡ 48 + n % 10 → 0 < length xs → front ≡ cond (ltb n 10) (replicate (length xs - 1) 32) (column (length xs - 1) (n / 10)) → front ++ post_of 0 (length xs - 1 - 0) (set xs (length xs - 1) v) ≡ column (length xs) n
+-- a column is its last digit, and before it the rest or spaces
+pub put_last : (w k n v : ℕ) (front : List ℕ) → w ≡ k + 1 → v ≡ 48 + n % 10 → front ≡ cond (ltb n 10) (replicate k 32) (column k (n / 10)) → front ++ (v ∷ []) ≡ column w n
 unfolding column
-put_one xs front n v ev p e =
-    let z : length xs - 1 - 0 ≡ length xs - 1 = omega arith in
-    let lt : length xs - 1 < length xs = omega arith in
-    let d : drop (length xs - 1) (set xs (length xs - 1) v) ≡ v ∷ drop (length xs - 1 + 1) xs = drop-set xs (length xs - 1) v lt in
-    let a : drop (length xs - 1 + 1) xs ≡ [] = drop_all (length xs - 1 + 1) xs (omega arith) in
-    let s : length xs ≡ suc (length xs - 1) = omega arith in
-    let q : column (length xs) n ≡ column (suc (length xs - 1)) n = ap (λ (k : ℕ). column k n) s in
-    let d2 : drop (length xs - 1) (set xs (length xs - 1) v) ≡ (48 + n % 10) ∷ [] = d ∙ (ap (λ (t : List ℕ). v ∷ t) a ∙ ap (λ (b : ℕ). b ∷ []) ev) in
-    simp (z, d2, e) (sym q)
+put_last w k n v front ew ev e =
+    let s : w ≡ suc k = omega arith in
+    let q : column w n ≡ column (suc k) n = ap (λ (j : ℕ). column j n) s in
+    rw (q, e, ev)
 
 pub put-none : (xs : List ℕ) (n : ℕ) → length xs ≡ 0 → xs ≡ column (length xs) n
 unfolding column
 put-none [] n e = refl
 put-none (x ∷ xs) n e = absurd (omega arith)
-
-pub front_length : (xs : List ℕ) (v : ℕ) → length (take (length xs - 1 - 0) (set xs (length xs - 1) v)) ≡ length xs - 1
-front_length xs v = simp (length-take, length-set) (omega arith)
-
-pub put_small : (xs front : List ℕ) (n v : ℕ) → v ≡ 48 + n % 10 → 0 < length xs → n < 10 → front ≡ replicate (length (take (length xs - 1 - 0) (set xs (length xs - 1) v))) 32 → front ++ post_of 0 (length xs - 1 - 0) (set xs (length xs - 1) v) ≡ column (length xs) n
-put_small xs front n v ev p h e = put_one xs front n v ev p (e ∙ simp (front_length xs v, lt-ltb n 10 h))
-
-pub put-big : (xs front : List ℕ) (n v : ℕ) → v ≡ 48 + n % 10 → 0 < length xs → 10 ≤ n → front ≡ column (length (take (length xs - 1 - 0) (set xs (length xs - 1) v))) (n / 10) → front ++ post_of 0 (length xs - 1 - 0) (set xs (length xs - 1) v) ≡ column (length xs) n
-put-big xs front n v ev p h e = put_one xs front n v ev p (e ∙ simp (front_length xs v, le-ltb n 10 h))

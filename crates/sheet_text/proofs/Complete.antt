@@ -7,8 +7,8 @@ use Rattle.terms.specs.declared.strategy.Leg.{Leg}
 use Rattle.terms.specs.declared.strategy.Line.{Line}
 use Rattle.sheet_text.specs.declared.reader.State.{State}
 use Rattle.sheet_text.specs.declared.reader.State.TheVariants as state
-use Rattle.sheet_text.specs.declared.reader.Brought.{Brought}
-use Rattle.sheet_text.specs.declared.reader.Brought.TheVariants as step
+use Rattle.sheet_text.specs.Brought.{Brought}
+use Rattle.sheet_text.specs.Brought as step
 use Rattle.sheet_text.proofs.Columns.{length-column}
 use Rattle.sheet_text.proofs.Laws.{leg-back, leg-width, field-column}
 use Rattle.sheet_text.proofs.Blanks.{blank-spaces}

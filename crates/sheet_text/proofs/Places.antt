@@ -10,15 +10,15 @@ use Rattle.sheet_text.specs.declared.letters.Sort.{Sort}
 use Rattle.sheet_text.specs.declared.letters.Sort.TheVariants as sort
 use Rattle.sheet_text.specs.declared.reader.State.{State}
 use Rattle.sheet_text.specs.declared.reader.State.TheVariants as state
-use Rattle.sheet_text.specs.declared.reader.Brought.{Brought}
-use Rattle.sheet_text.specs.declared.reader.Brought.TheVariants as step
+use Rattle.sheet_text.specs.Brought.{Brought}
+use Rattle.sheet_text.specs.Brought as step
 use Rattle.sheet_text.specs.declared.fault.TextFault.{TextFault}
 use Rattle.sheet_text.specs.declared.fault.TextFault.TheVariants.{DayOutsideLimits, TooManyLines, BrokenRecord, UnknownLetter, OutOfTurn}
 use Rattle.sheet_text.specs.Letters.{sort_letter, sort_of}
 use Rattle.sheet_text.specs.Columns.{blank, field_of}
 use Rattle.sheet_text.specs.Records.{Shape, head, strategy, trailer, cut, record_of}
 use Rattle.sheet_text.specs.Sheet.{line_text, head_text, trailer_text, render, LineFits}
-use Rattle.sheet_text.specs.Reading.{and_then, line_of, count_is, found, turned, step_of, FoundRoom, next_state, kept, ended, run, reads, ReadIs}
+use Rattle.sheet_text.specs.Reading.{and_then, line_of, count_is, found, turned, step_of, next_state, kept, ended, run, reads, ReadIs}
 use Rattle.sheet_text.specs.Told.{Before, nothing, begun, whole, bytes_of, lines_of, Due, expected, Unbroken, Shows, CountIll, IllBy, CountDiffers, HasRoom, InTurn, Here, Place, Told}
 use Rattle.sheet_text.proofs.Laws.{sort-back, letter-is, LetterIs}
 use Rattle.sheet_text.proofs.Cuts.{record-sound}
@@ -122,6 +122,13 @@ record-long at bs sh e = ⊎_elim
     (λ t. absurd (let c = sym e ∙ cond-true (ltb (length bs) 38) _ _ t in let z : ◌≡◌ {A = ℕ} 0 1 = cc in omega arith))
     (λ t. ltb-false (length bs) 38 t)
     (cases_Bool (ltb (length bs) 38))
+
+-- a line is found only where there is room for it
+abbrev FoundRoom : Result Brought TextFault → ℕ → ℕ → Type 0
+FoundRoom (Ok step.Opened) n room = Unit {0}
+FoundRoom (Ok (step.Found l)) n room = n < room
+FoundRoom (Ok step.Closed) n room = Unit {0}
+FoundRoom (Err e) n room = Unit {0}
 
 room-any : (n room : ℕ) (br : Brought) → n < room → FoundRoom (Ok br) n room
 room-any n room step.Opened h = tt

@@ -6,8 +6,8 @@ use Rattle.terms.specs.declared.strategy.Kind.{Kind}
 use Rattle.terms.specs.declared.strategy.Line.{Line}
 use Rattle.sheet_text.specs.declared.reader.State.{State}
 use Rattle.sheet_text.specs.declared.reader.State.TheVariants as state
-use Rattle.sheet_text.specs.declared.reader.Brought.{Brought}
-use Rattle.sheet_text.specs.declared.reader.Brought.TheVariants as step
+use Rattle.sheet_text.specs.Brought.{Brought}
+use Rattle.sheet_text.specs.Brought as step
 use Rattle.sheet_text.specs.declared.fault.TextFault.{TextFault}
 use Rattle.sheet_text.proofs.Laws.{leg-sound, field_is}
 use Rattle.sheet_text.proofs.Blanks.{spaces-blank}

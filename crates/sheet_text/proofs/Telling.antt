@@ -3,7 +3,7 @@ use Rattle.std.proofs.Common.{◌≡◌, ℕ, ◌+◌, ◌<◌, Bool, true, fals
 use Rattle.std.specs.List.{between}
 use Rattle.std.proofs.lemmas.Bool.{cond-true, cond-false, eqb-false, ltb-false, cases_Bool}
 use Rattle.terms.specs.declared.strategy.Kind.{Kind}
-use Rattle.sheet_text.specs.declared.reader.Brought.{Brought}
+use Rattle.sheet_text.specs.Brought.{Brought}
 use Rattle.sheet_text.specs.declared.fault.TextFault.{TextFault}
 use Rattle.sheet_text.specs.declared.fault.TextFault.TheVariants.{IllFormed, Differs}
 use Rattle.sheet_text.specs.Columns.{blank, field_of}

@@ -11,6 +11,7 @@ use Rattle.sheet_text.specs.Sheet.{leg_text, line_text, head_text, trailer_text,
 use Rattle.sheet_text.specs.Writing.{leg_fits, unfit, unfit_at, fit_of_lines}
 use Rattle.sheet_text.proofs.Columns.{length-column}
 use Rattle.sheet_text.proofs.Laws.{leg-width}
+use Rattle.sheet_text.proofs.Writes.{unfit_from, unfit-is}
 
 pub line-width : (l : Line) → LineFits l → length (line_text l) ≡ 38
 line-width l fit =
@@ -38,13 +39,14 @@ render-width day ls all = go (head_text day) (flat_map line_text ls) (trailer_te
 leg-pass : (l : Leg) → LegFits l → leg_fits l ≡ true
 leg-pass l fit = let a = fit.row_fits in let b = fit.lots_fit in let c = fit.unused in grind (arith, nat_tests)
 
-fit-pass : (j : ℕ) (l : Leg) (ls : List Leg) (o : Option ℕ) → LegFits l → unfit (j + 1) ls ≡ o → unfit j (l ∷ ls) ≡ o
+fit-pass : (j : ℕ) (l : Leg) (ls : List Leg) (o : Option ℕ) → LegFits l → unfit_from (j + 1) ls ≡ o → unfit_from j (l ∷ ls) ≡ o
 fit-pass j l ls o fit e = cond-true (leg_fits l) _ _ (leg-pass l fit) ∙ e
 
-line-pass : (l : Line) → LineFits l → unfit 0 l.legs ≡ None
+line-pass : (l : Line) → LineFits l → unfit l.legs ≡ None
 line-pass l fit =
-    ap (unfit 0) fit.legs_are
-    ∙ fit-pass 0 fit.leg_1 (fit.leg_2 ∷ fit.leg_3 ∷ fit.leg_4 ∷ []) None fit.fit_1 (fit-pass (0 + 1) fit.leg_2 (fit.leg_3 ∷ fit.leg_4 ∷ []) None fit.fit_2 (fit-pass (0 + 1 + 1) fit.leg_3 (fit.leg_4 ∷ []) None fit.fit_3 (fit-pass (0 + 1 + 1 + 1) fit.leg_4 [] None fit.fit_4 refl)))
+    unfit-is l.legs
+    ∙ (ap (unfit_from 0) fit.legs_are
+    ∙ fit-pass 0 fit.leg_1 (fit.leg_2 ∷ fit.leg_3 ∷ fit.leg_4 ∷ []) None fit.fit_1 (fit-pass (0 + 1) fit.leg_2 (fit.leg_3 ∷ fit.leg_4 ∷ []) None fit.fit_2 (fit-pass (0 + 1 + 1) fit.leg_3 (fit.leg_4 ∷ []) None fit.fit_3 (fit-pass (0 + 1 + 1 + 1) fit.leg_4 [] None fit.fit_4 refl))))
 
 pub lines-pass : (i : ℕ) (ls : List Line) → AllByRecursion LineFits ls → fit_of_lines i ls ≡ Ok tt
 lines-pass i [] all = refl

@@ -1,5 +1,6 @@
 -- A number in a field of fixed width, and how the bytes of a field are read.
-use Rattle.std.specs.Prelude.{◌≡◌, ℕ, zero, suc, ◌+◌, ◌-◌, ◌*◌, ◌/◌, ◌%◌, ◌^◌, ◌<◌, Bool, true, false, cond, List, [], ◌∷◌, ◌++◌, length, replicate, Some, None, fold, Option, ◌==◌, ◌≢◌, nat_le, nat_lt}
+use Rattle.std.specs.Prelude.{◌≡◌, ℕ, zero, suc, ◌+◌, ◌-◌, ◌*◌, ◌/◌, ◌%◌, ◌^◌, ◌<◌, Bool, false, cond, List, [], ◌∷◌, ◌++◌, length, replicate, Some, None, fold, Option, ◌==◌, ◌≢◌, nat_le, nat_lt}
+use Rattle.std.specs.List.{list_all}
 use Rattle.sheet_text.specs.declared.fields.Seen.{Seen}
 use Rattle.sheet_text.specs.declared.fields.Seen.TheVariants.{Blank, Number, Bad}
 
@@ -15,8 +16,7 @@ FieldIs f (Some n) = (f ≡ column (length f) n) × (n < 10 ^ length f)
 
 -- every byte is a space
 abbrev pub blank : List ℕ → Bool
-blank [] = true
-blank (b ∷ bs) = cond (b == 32) (blank bs) false
+blank bs = list_all (λ b. b == 32) bs
 
 -- a byte from 0 to 9
 abbrev pub is_digit : ℕ → Bool

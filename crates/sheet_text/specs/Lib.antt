@@ -2,7 +2,9 @@ pub mod Letters
 pub mod Columns
 pub mod Records
 pub mod Sheet
+pub mod Brought
 pub mod Reading
+pub mod Readers
 pub mod Writing
 pub mod Laws
 pub mod Told

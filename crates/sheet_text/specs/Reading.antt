@@ -1,5 +1,5 @@
 -- The reading of a text, record by record, to its lines or to its first fault.
-use Rattle.std.specs.Prelude.{◌≡◌, ℕ, zero, suc, ◌+◌, ◌<◌, ◌≤◌, min, Bool, true, false, cond, List, [], ◌∷◌, ◌++◌, length, take, drop, Some, None, Ok, Err, Option, Result, ◌==◌, nat_lt}
+use Rattle.std.specs.Prelude.{◌≡◌, ℕ, zero, suc, ◌+◌, ◌≤◌, min, Bool, true, false, cond, List, [], ◌∷◌, ◌++◌, length, take, drop, Some, None, Ok, Err, Option, Result, ◌==◌, nat_lt}
 use Rattle.std.specs.List.{between}
 use Rattle.terms.specs.Limits.{is_day, most_lines}
 use Rattle.terms.specs.declared.strategy.Kind.{Kind}
@@ -7,8 +7,8 @@ use Rattle.terms.specs.declared.strategy.Leg.{Leg}
 use Rattle.terms.specs.declared.strategy.Line.{Line}
 use Rattle.sheet_text.specs.declared.reader.State.{State}
 use Rattle.sheet_text.specs.declared.reader.State.TheVariants as state
-use Rattle.sheet_text.specs.declared.reader.Brought.{Brought}
-use Rattle.sheet_text.specs.declared.reader.Brought.TheVariants as step
+use Rattle.sheet_text.specs.Brought.{Brought}
+use Rattle.sheet_text.specs.Brought as step
 use Rattle.sheet_text.specs.declared.fault.TextFault.{TextFault}
 use Rattle.sheet_text.specs.declared.fault.TextFault.TheVariants.{DayOutsideLimits, TooManyLines, IllFormed, OutOfTurn, Differs}
 use Rattle.sheet_text.specs.Columns.{blank, field_of}
@@ -39,7 +39,7 @@ line_of at k f g h i =
     Ok (record { kind = k; legs = a ∷ b ∷ c ∷ d ∷ [] })))))
 
 -- a head or a trailer at `at`: its number, then whether spaces follow, then whether n is its number
-abbrev pub count_is : ℕ → ℕ → Option ℕ → Bool → Brought → Result Brought TextFault
+abbrev pub count_is : {A : Type 0} → ℕ → ℕ → Option ℕ → Bool → A → Result A TextFault
 count_is at n None b s = Err (IllFormed (at + 1))
 count_is at n (Some m) false s = Err (IllFormed (at + 9))
 count_is at n (Some m) true s = cond (m == n) (Ok s) (Err (Differs (at + 1)))
@@ -64,13 +64,6 @@ turned day room n at state.End (trailer f b) = Err (OutOfTurn at)
 -- the same of what is left of the text
 abbrev pub step_of : ℕ → ℕ → ℕ → ℕ → State → List ℕ → Result Brought TextFault
 step_of day room n at st bs = and_then (record_of at bs) (turned day room n at st)
-
--- a line is found only where there is room for it
-abbrev pub FoundRoom : Result Brought TextFault → ℕ → ℕ → Type 0
-FoundRoom (Ok step.Opened) n room = Unit {0}
-FoundRoom (Ok (step.Found l)) n room = n < room
-FoundRoom (Ok step.Closed) n room = Unit {0}
-FoundRoom (Err e) n room = Unit {0}
 
 -- what may come after a record
 abbrev pub next_state : State → Brought → State
@@ -110,18 +103,3 @@ reads_all day entries text = cond (is_day day) (reads day (min entries most_line
 abbrev pub ReadIs : ℕ → List ℕ → List Line → List Line → Result ℕ TextFault → Type 0
 ReadIs day text old new (Ok n) = (reads_all day (length old) text ≡ Ok (take n new)) × (n ≤ min (length old) most_lines) × (drop n new ≡ drop n old)
 ReadIs day text old new (Err e) = (reads_all day (length old) text ≡ Err e) × (new ≡ old)
-
--- the lines that a count says are read
-abbrev pub ok_lines : Result ℕ TextFault → List Line → Result (List Line) TextFault
-ok_lines (Ok n) list = Ok (take n list)
-ok_lines (Err e) list = Err e
-
--- no more lines than there is room for
-abbrev pub OkBelow : Result ℕ TextFault → ℕ → Type 0
-OkBelow (Ok n) room = n ≤ room
-OkBelow (Err e) room = Unit {0}
-
--- what stands past the lines that are read stays
-abbrev pub TailIs : Result ℕ TextFault → List Line → List Line → Type 0
-TailIs (Ok n) old new = drop n new ≡ drop n old
-TailIs (Err e) old new = Unit {0}

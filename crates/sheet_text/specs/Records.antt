@@ -1,5 +1,6 @@
 -- The fields of a record.
-use Rattle.std.specs.Prelude.{◌≡◌, ℕ, cond, List, length, Some, None, Ok, Err, Option, Result, ◌==◌, nat_lt, slice_index}
+use Rattle.std.specs.Prelude.{◌≡◌, ℕ, cond, List, [], map, length, Some, None, Ok, Err, Option, Result, ◌==◌, nat_lt, slice_index, slice_index_or}
+use denote.Ref.{Bor}
 use Rattle.std.specs.List.{between}
 use Rattle.terms.specs.declared.strategy.Kind.{Kind}
 use Rattle.sheet_text.specs.declared.letters.Sort.{Sort}
@@ -16,10 +17,14 @@ pub data Shape : Type 0 where
   strategy : Kind → List ℕ → List ℕ → List ℕ → List ℕ → Shape
   trailer : List ℕ → List ℕ → Shape
 
+-- what the i-th of some parts of a text holds
+abbrev pub part : List (Bor (List ℕ)) → ℕ → List ℕ
+part parts i = slice_index_or (map (λ p. p.now) parts) i []
+
 -- what the parts of a text hold that a record is cut into
 abbrev pub shape_of : Record → Shape
 shape_of (rec.Head f) = head f.number.now f.spaces.now
-shape_of (rec.Strategy kind f) = strategy kind f.first.now f.second.now f.third.now f.fourth.now
+shape_of (rec.Strategy kind a b c d) = strategy kind a.now b.now c.now d.now
 shape_of (rec.Trailer f) = trailer f.number.now f.spaces.now
 
 -- the same of an answer

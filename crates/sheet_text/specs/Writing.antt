@@ -1,6 +1,6 @@
 -- What may be written, and what is written.
-use Rattle.std.specs.Prelude.{◌≡◌, ℕ, ◌+◌, ◌*◌, ◌<◌, ◌≤◌, Bool, true, false, cond, List, [], ◌∷◌, ◌++◌, length, drop, Some, None, Ok, Err, Option, Result, ◌==◌, nat_le, nat_lt}
-use Rattle.std.specs.List.{AllByRecursion}
+use Rattle.std.specs.Prelude.{◌≡◌, ℕ, ◌+◌, ◌*◌, ◌<◌, ◌≤◌, Bool, true, false, cond, List, [], ◌∷◌, ◌++◌, length, drop, Some, None, Ok, Err, Option, Result, ◌==◌, not, nat_le, nat_lt}
+use Rattle.std.specs.List.{position, AllByRecursion}
 use Rattle.terms.specs.Limits.{is_day, most_lines}
 use Rattle.terms.specs.declared.strategy.Leg.{Leg}
 use Rattle.terms.specs.declared.strategy.Line.{Line}
@@ -13,10 +13,9 @@ use Rattle.sheet_text.specs.Reading.{and_then}
 abbrev pub leg_fits : Leg → Bool
 leg_fits l = cond (nat_le l.row 999) (cond (nat_le l.lots 999999) (cond (nat_lt 0 l.lots) true (l.row == 0)) false) false
 
--- the place of the first leg that does not fit, of those from the j-th on
-abbrev pub unfit : ℕ → List Leg → Option ℕ
-unfit j [] = None
-unfit j (l ∷ ls) = cond (leg_fits l) (unfit (j + 1) ls) (Some j)
+-- the place of the first leg that does not fit
+abbrev pub unfit : List Leg → Option ℕ
+unfit ls = position (λ l. not (leg_fits l)) ls
 
 -- the fault of line i, if a leg of it does not fit, or else that of the lines after it
 abbrev pub unfit_at : ℕ → Option ℕ → Result (Unit {0}) TextFault → Result (Unit {0}) TextFault
@@ -26,7 +25,7 @@ unfit_at i (Some j) rest = Err (LegOutsideFormat i j)
 -- the first fault of the lines from the i-th on
 abbrev pub fit_of_lines : ℕ → List Line → Result (Unit {0}) TextFault
 fit_of_lines i [] = Ok tt
-fit_of_lines i (l ∷ ls) = unfit_at i (unfit 0 l.legs) (fit_of_lines (i + 1) ls)
+fit_of_lines i (l ∷ ls) = unfit_at i (unfit l.legs) (fit_of_lines (i + 1) ls)
 
 -- leg j of line i does not fit, and each leg and each line before it does
 pub record FirstUnfit (lines : List Line) (i j : ℕ) : Type 0 where

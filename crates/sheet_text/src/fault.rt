@@ -6,7 +6,7 @@ use std::fmt;
 use terms::denial::{Denial, Layer, Place};
 
 /// The fault of a text or of a sheet; `at` counts the text's bytes from 0.
-#[derive(Clone, Copy)]
+#[derive(Clone, Copy, PartialEq, Eq, Debug)]
 pub enum TextFault {
     DayOutsideLimits,
     LegOutsideFormat { line: u64, leg: u64 },
@@ -48,11 +48,11 @@ impl Denial for TextFault {
             TextFault::LegOutsideFormat { line, leg } => Place::Leg { line, leg },
             TextFault::TooManyLines { limit } => Place::Number(limit),
             TextFault::BufferTooShort { needed } => Place::Number(needed),
-            TextFault::BrokenRecord { at } => Place::Number(at),
-            TextFault::UnknownLetter { at } => Place::Number(at),
-            TextFault::IllFormed { at } => Place::Number(at),
-            TextFault::OutOfTurn { at } => Place::Number(at),
-            TextFault::Differs { at } => Place::Number(at),
+            TextFault::BrokenRecord { at }
+            | TextFault::UnknownLetter { at }
+            | TextFault::IllFormed { at }
+            | TextFault::OutOfTurn { at }
+            | TextFault::Differs { at } => Place::Number(at),
         }
     }
 }

@@ -23,17 +23,21 @@ fn step(seen: Seen, b: u8) -> Seen
     }
 }
 
+/// What the bytes of a whole field are.
+fn seen_in(field: &[u8]) -> Seen
+    requires { length field.now ≤ 9 }
+    ensures { result ≡ seen_of field.now }
+{
+    field.iter().fold(Seen::Blank, |seen, b| step(seen, *b))
+}
+
 /// The number in a field: right-justified after spaces, with no leading zero.
 pub(super) fn parse_field(field: &[u8]) -> Option<u32>
     requires { (0 < length field.now) × (length field.now ≤ 9) }
     ensures value { result ≡ value_of (seen_of field.now) }
     ensures exact { FieldIs field.now result }
 {
-    let mut seen = Seen::Blank;
-    for b in field {
-        seen = step(seen, *b);
-    }
-    match seen {
+    match seen_in(field) {
         Seen::Number(n) => Some(n),
         _ => None,
     }
@@ -43,12 +47,7 @@ pub(super) fn parse_field(field: &[u8]) -> Option<u32>
 pub(super) fn is_blank(field: &[u8]) -> bool
     ensures { result ≡ blank field.now }
 {
-    for b in field {
-        if *b != b' ' {
-            return false;
-        }
-    }
-    true
+    field.iter().all(|b| *b == b' ')
 }
 
 fn last_digit(n: u32) -> u8
@@ -61,12 +60,10 @@ fn last_digit(n: u32) -> u8
 pub(super) fn put_field(out: &mut [u8], n: u32)
     ensures { out.new ≡ column (length out.old) n }
 {
-    let w = out.len();
-    if w == 0 {
+    let Some((last, front)) = out.split_last_mut() else {
         return;
-    }
-    out[w - 1] = last_digit(n);
-    let front = &mut out[0..w - 1];
+    };
+    *last = last_digit(n);
     if n < 10 {
         front.fill(b' ');
     } else {

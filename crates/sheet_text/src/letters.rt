@@ -31,6 +31,7 @@ pub(super) fn sort_of(letter: char) -> Option<Sort>
 }
 
 /// The letter of a strategy.
+// Stays: a function, since `From` can join no two types of other crates.
 pub(super) fn letter_of(kind: Kind) -> u8
     ensures { result ≡ kind_letter kind }
 {

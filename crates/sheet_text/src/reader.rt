@@ -1,15 +1,16 @@
 // Reading a text: record after record, each by what may come next.
-ghost use Rattle.std.specs.Prelude.{◌≡◌, ◌+◌, ◌^◌, ◌<◌, ◌≤◌, min, length};
+ghost use Rattle.std.specs.Prelude.{◌≡◌, ◌+◌, ◌^◌, ◌<◌, ◌≤◌, min, length, IfOk};
 ghost use Rattle.terms.specs.Limits.{most_lines};
 ghost use Rattle.sheet_text.specs.Columns.{blank, field_of};
-ghost use Rattle.sheet_text.specs.Records.{shape_of, Wide};
-ghost use Rattle.sheet_text.specs.Reading.{leg_of, line_of, count_is, turned, step_of, FoundRoom, reads, ok_lines, OkBelow, TailIs, ReadIs};
+ghost use Rattle.sheet_text.specs.Records.{strategy, part, shape_of, Wide};
+ghost use Rattle.sheet_text.specs.Reading.{leg_of, line_of, count_is, turned, step_of, ended, ReadIs};
+ghost use Rattle.sheet_text.specs.declared.reader.State.TheVariants.{Head};
 ghost use Rattle.sheet_text.specs.Laws.{Accepted, Refused, Again};
 ghost use Rattle.sheet_text.specs.Told.{Told};
 
 use crate::fault::TextFault;
 use crate::fields::{is_blank, parse_field};
-use crate::records::{Count, Legs, RECORD, Record, record_of};
+use crate::records::{Count, RECORD, Record, record_of};
 use terms::limits::{Day, HasLimits, MAX_LINES};
 use terms::strategy::{Kind, Leg, Line};
 
@@ -28,14 +29,6 @@ enum State {
     End,
 }
 
-/// What a record brought.
-#[derive(Clone, Copy)]
-enum Brought {
-    Opened,
-    Found(Line),
-    Closed,
-}
-
 /// A leg's nine columns, which stand at `at`.
 fn leg_of(field: &[u8], at: u64) -> Result<Leg, TextFault>
     requires { (length field.now ≡ 9) × (at + 3 < 2 ^ 64) }
@@ -44,9 +37,7 @@ fn leg_of(field: &[u8], at: u64) -> Result<Leg, TextFault>
     if is_blank(field) {
         return Ok(UNUSED);
     }
-    let Some(row) = parse_field(&field[0..3]) else {
-        return Err(TextFault::IllFormed { at });
-    };
+    let row = parse_field(&field[0..3]).ok_or(TextFault::IllFormed { at })?;
     match parse_field(&field[3..9]) {
         Some(lots) if lots > 0 => Ok(Leg { row, lots }),
         _ => Err(TextFault::IllFormed { at: at + 3 }),
@@ -54,122 +45,122 @@ fn leg_of(field: &[u8], at: u64) -> Result<Leg, TextFault>
 }
 
 /// The strategy of a record at `at`.
-fn line_of(kind: Kind, legs: Legs<'_>, at: u64) -> Result<Line, TextFault>
-    requires { (length legs.first.now ≡ 9) × ((length legs.second.now ≡ 9) × ((length legs.third.now ≡ 9) × ((length legs.fourth.now ≡ 9) × (at + 38 < 2 ^ 64)))) }
-    ensures { result ≡ line_of at kind legs.entry.first.now legs.entry.second.now legs.entry.third.now legs.entry.fourth.now }
+fn line_of(kind: Kind, legs: [&[u8]; 4], at: u64) -> Result<Line, TextFault>
+    requires { (Wide (strategy kind (part legs 0) (part legs 1) (part legs 2) (part legs 3))) × (at + 38 < 2 ^ 64) }
+    ensures { result ≡ line_of at kind (part legs.entry 0) (part legs.entry 1) (part legs.entry 2) (part legs.entry 3) }
 {
-    let a = leg_of(legs.first, at + 1)?;
-    let b = leg_of(legs.second, at + 10)?;
-    let c = leg_of(legs.third, at + 19)?;
-    let d = leg_of(legs.fourth, at + 28)?;
+    let [first, second, third, fourth] = legs;
+    // Stays: four calls, since a chain that stops at the first fault would have to fill an array as it goes.
     Ok(Line {
         kind,
-        legs: [a, b, c, d],
+        legs: [
+            leg_of(first, at + 1)?,
+            leg_of(second, at + 10)?,
+            leg_of(third, at + 19)?,
+            leg_of(fourth, at + 28)?,
+        ],
     })
 }
 
-/// The number of a head or a trailer at `at` is the expected one, and spaces follow.
-fn count_is(count: Count<'_>, expected: u64, at: u64, brings: Brought) -> Result<Brought, TextFault>
+/// Whether the number of a head or a trailer at `at` is the expected one, and spaces follow.
+fn count_is(count: Count<'_>, expected: u64, at: u64) -> Result<(), TextFault>
     requires { (length count.number.now ≡ 8) × (at + 38 < 2 ^ 64) }
-    ensures { result ≡ count_is at expected (field_of count.entry.number.now) (blank count.entry.spaces.now) brings }
+    ensures { result ≡ count_is at expected (field_of count.entry.number.now) (blank count.entry.spaces.now) tt }
 {
-    let Some(number) = parse_field(count.number) else {
-        return Err(TextFault::IllFormed { at: at + 1 });
-    };
+    let number = parse_field(count.number).ok_or(TextFault::IllFormed { at: at + 1 })?;
     if !is_blank(count.spaces) {
         return Err(TextFault::IllFormed { at: at + 9 });
     }
     if u64::from(number) == expected {
-        Ok(brings)
+        Ok(())
     } else {
         Err(TextFault::Differs { at: at + 1 })
     }
 }
 
-/// What a record brings, where `n` lines are found and there is room for `room`.
-fn turn(
-    state: State,
-    came: Record<'_>,
+/// A reading of a text: what the text is held to, and how far it is read.
+#[derive(Drop)]
+struct Reader {
     day: u64,
     room: usize,
-    n: usize,
     at: u64,
-) -> Result<Brought, TextFault>
-    requires { (Wide (shape_of came)) × (at + 38 < 2 ^ 64) }
-    ensures brings { result ≡ turned day room n at state (shape_of came.entry) }
-    ensures room { FoundRoom result n room }
-{
-    match (state, came) {
-        (State::Head, Record::Head(count)) => count_is(count, day, at, Brought::Opened),
-        (State::Strategies, Record::Strategy(kind, legs)) => {
-            if n < room {
-                Ok(Brought::Found(line_of(kind, legs, at)?))
-            } else {
-                Err(TextFault::TooManyLines { limit: room as u64 })
-            }
-        }
-        (State::Strategies, Record::Trailer(count)) => count_is(
-            count,
-            n as u64,
-            at,
-            Brought::Closed,
-        ),
-        _ => Err(TextFault::OutOfTurn { at }),
-    }
-}
-
-/// What the record at the front of `text` brings.
-fn next(
     state: State,
-    text: &[u8],
-    day: u64,
-    room: usize,
-    n: usize,
-    at: u64,
-) -> Result<Brought, TextFault>
-    requires { at + 38 < 2 ^ 64 }
-    ensures brings { result ≡ step_of day room n at state text.now }
-    ensures room { FoundRoom result n room }
-{
-    match record_of(text, at) {
-        Ok(came) => turn(state, came, day, room, n, at),
-        Err(fault) => Err(fault),
-    }
+    found: usize,
+    // Stays: an array and a count, since an `ArrayVec` asks for a default line, and there is none.
+    lines: [Line; MAX_LINES],
+    ghost within: { (found ≤ room) × (room ≤ most_lines) },
+    ghost entries: { length lines ≡ most_lines },
 }
 
-/// Reads the records of the text in turn, the lines to `lines`, at most `room`.
-fn scan(text: &[u8], day: u64, room: usize, lines: &mut [Line]) -> Result<usize, TextFault>
-    requires { room ≤ length lines.old }
-    ensures lines { ok_lines result lines.new ≡ reads day room text.now }
-    ensures bound { OkBelow result room }
-    ensures tail { TailIs result lines.old lines.new }
-{
-    let mut state = State::Head;
-    let mut n = 0;
-    let mut at = 0;
-    while at < text.len() {
-        let brought = next(state, &text[at..], day, room, n, at as u64)?;
-        match brought {
-            Brought::Opened => state = State::Strategies,
-            Brought::Found(line) => {
-                lines[n] = line;
-                n += 1;
-            }
-            Brought::Closed => state = State::End,
+impl Reader {
+    ghost use Rattle.sheet_text.specs.Readers.{lines_of, answered, Goes};
+
+    /// Before the first record, with room for as many lines as there are entries.
+    fn new(day: u64, entries: usize) -> Reader
+        ensures held { (result.day ≡ day) × (result.room ≡ min entries most_lines) }
+        ensures front { (result.at ≡ 0) × (result.state ≡ Head) × (result.found ≡ 0) }
+    {
+        Reader {
+            day,
+            room: entries.min(MAX_LINES),
+            at: 0,
+            state: State::Head,
+            found: 0,
+            lines: [NO_LINE; MAX_LINES],
         }
-        at += RECORD;
     }
-    match state {
-        State::End => Ok(n),
-        _ => Err(TextFault::OutOfTurn { at: at as u64 }),
-    }
-}
 
-/// For how many lines there is room in so many entries.
-fn room_in(entries: usize) -> usize
-    ensures { result ≡ min entries most_lines }
-{
-    entries.min(MAX_LINES)
+    /// Takes a record's fields, where such a record may come next.
+    fn turn(&mut self, came: Record<'_>) -> Result<(), TextFault>
+        requires { (Wide (shape_of came)) × (self.old.at + 38 < 2 ^ 64) }
+        ensures { Goes self.old self.new 0 (turned self.old.day self.old.room self.old.found self.old.at self.old.state (shape_of came.entry)) result }
+    {
+        match (self.state, came) {
+            (State::Head, Record::Head(count)) => {
+                count_is(count, self.day, self.at)?;
+                self.state = State::Strategies;
+                Ok(())
+            }
+            (State::Strategies, Record::Strategy(kind, first, second, third, fourth)) => {
+                if self.found == self.room {
+                    return Err(TextFault::TooManyLines {
+                        limit: self.room as u64,
+                    });
+                }
+                self.lines[self.found] = line_of(kind, [first, second, third, fourth], self.at)?;
+                self.found += 1;
+                Ok(())
+            }
+            (State::Strategies, Record::Trailer(count)) => {
+                count_is(count, self.found as u64, self.at)?;
+                self.state = State::End;
+                Ok(())
+            }
+            _ => Err(TextFault::OutOfTurn { at: self.at }),
+        }
+    }
+
+    /// Reads the record that comes next.
+    fn take(&mut self, bytes: &[u8]) -> Result<(), TextFault>
+        requires { self.old.at + 38 < 2 ^ 64 }
+        ensures { Goes self.old self.new 38 (step_of self.old.day self.old.room self.old.found self.old.at self.old.state bytes.now) result }
+    {
+        let came = record_of(bytes, self.at)?;
+        self.turn(came)?;
+        self.at += RECORD as u64;
+        Ok(())
+    }
+
+    /// The lines, where the trailer was the last record.
+    fn lines(&self) -> Result<&[Line], TextFault>
+        ensures lines { answered result ≡ ended self.now.state self.now.at (lines_of self.now) }
+        ensures few { IfOk result (λ lines. length lines.now ≤ self.now.room) }
+    {
+        match self.state {
+            State::End => Ok(&self.lines[0..self.found]),
+            _ => Err(TextFault::OutOfTurn { at: self.at }),
+        }
+    }
 }
 
 /// Reads the text of a day's sheet into the list, and answers how many lines it has; on a denial the list stays as it was.
@@ -183,9 +174,11 @@ pub fn read(text: &[u8], day: u64, list: &mut [Line]) -> Result<usize, TextFault
     if !Day::contains(day) {
         return Err(TextFault::DayOutsideLimits);
     }
-    let room = room_in(list.len());
-    let mut lines = [NO_LINE; MAX_LINES];
-    let n = scan(text, day, room, &mut lines)?;
-    list[0..n].copy_from_slice(&lines[0..n]);
-    Ok(n)
+    let mut reader = Reader::new(day, list.len());
+    for piece in text.chunks(RECORD) {
+        reader.take(piece)?;
+    }
+    let lines = reader.lines()?;
+    list[0..lines.len()].copy_from_slice(lines);
+    Ok(lines.len())
 }

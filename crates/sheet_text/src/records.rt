@@ -1,5 +1,6 @@
 // A record of a text, cut into its fields.
-ghost use Rattle.std.specs.Prelude.{◌≡◌};
+ghost use Rattle.std.specs.Prelude.{◌≡◌, ◌≤◌, length};
+ghost use Rattle.std.specs.List.{between};
 ghost use Rattle.sheet_text.specs.Records.{record_of, shape_ok, WideOk};
 
 use crate::fault::TextFault;
@@ -19,21 +20,26 @@ pub(super) struct Count<'a> {
     pub(super) spaces: &'a [u8],
 }
 
-/// The legs of a strategy, as parts of the text.
-#[derive(Clone, Copy)]
-pub(super) struct Legs<'a> {
-    pub(super) first: &'a [u8],
-    pub(super) second: &'a [u8],
-    pub(super) third: &'a [u8],
-    pub(super) fourth: &'a [u8],
-}
-
 /// A record, by its fields.
 #[derive(Clone, Copy)]
 pub(super) enum Record<'a> {
     Head(Count<'a>),
-    Strategy(Kind, Legs<'a>),
+    // Stays: four parts and no array, since the check covers no array of references in a case of an enum.
+    Strategy(Kind, &'a [u8], &'a [u8], &'a [u8], &'a [u8]),
     Trailer(Count<'a>),
+}
+
+/// The fields of a whole head or trailer.
+fn count_of(text: &[u8]) -> Count<'_>
+    requires { 38 ≤ length text.now }
+    ensures number { result.number.now ≡ between 1 9 text.now }
+    ensures spaces { result.spaces.now ≡ between 9 37 text.now }
+    ensures wide { (length result.number.now ≡ 8) × (length result.spaces.now ≡ 28) }
+{
+    Count {
+        number: &text[1..9],
+        spaces: &text[9..37],
+    }
 }
 
 /// The record at the front of `text`, of which `at` bytes are read.
@@ -44,24 +50,15 @@ pub(super) fn record_of(text: &[u8], at: u64) -> Result<Record<'_>, TextFault>
     if text.len() < RECORD || text[LINE_FEED] != b'\n' {
         return Err(TextFault::BrokenRecord { at });
     }
-    match sort_of(char::from(text[0])) {
-        None => Err(TextFault::UnknownLetter { at }),
-        Some(Sort::Head) => Ok(Record::Head(Count {
-            number: &text[1..9],
-            spaces: &text[9..37],
-        })),
-        Some(Sort::Strategy(kind)) => Ok(Record::Strategy(
+    match sort_of(char::from(text[0])).ok_or(TextFault::UnknownLetter { at })? {
+        Sort::Head => Ok(Record::Head(count_of(text))),
+        Sort::Strategy(kind) => Ok(Record::Strategy(
             kind,
-            Legs {
-                first: &text[1..10],
-                second: &text[10..19],
-                third: &text[19..28],
-                fourth: &text[28..37],
-            },
+            &text[1..10],
+            &text[10..19],
+            &text[19..28],
+            &text[28..37],
         )),
-        Some(Sort::Trailer) => Ok(Record::Trailer(Count {
-            number: &text[1..9],
-            spaces: &text[9..37],
-        })),
+        Sort::Trailer => Ok(Record::Trailer(count_of(text))),
     }
 }

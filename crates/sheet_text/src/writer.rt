@@ -12,6 +12,9 @@ use crate::records::{LINE_FEED, RECORD};
 use terms::limits::{Day, HasLimits, MAX_LINES};
 use terms::strategy::{Leg, Line};
 
+/// How many columns a leg has.
+const LEG: usize = 9;
+
 /// The most that a leg's columns can show.
 const MAX_ROW: u32 = 999;
 
@@ -42,15 +45,17 @@ fn put_leg(out: &mut [u8], leg: Leg)
 }
 
 /// A strategy: its letter and its legs.
+// Stays: places of columns, and no `chunks_exact_mut`: of parts that it gave, a proof knows the lengths alone once they are written.
 fn put_line(out: &mut [u8], line: &Line)
     requires { length out.old ≡ 38 }
     ensures { out.new ≡ line_text line.now }
 {
     out[0] = letter_of(line.kind);
-    put_leg(&mut out[1..10], line.legs[0]);
-    put_leg(&mut out[10..19], line.legs[1]);
-    put_leg(&mut out[19..28], line.legs[2]);
-    put_leg(&mut out[28..37], line.legs[3]);
+    let legs: &[Leg] = &line.legs;
+    for (j, leg) in legs.iter().enumerate() {
+        let at = 1 + LEG * j;
+        put_leg(&mut out[at..at + LEG], *leg);
+    }
     out[LINE_FEED] = b'\n';
 }
 
@@ -60,11 +65,11 @@ fn put_all(day: u32, lines: &[Line], out: &mut [u8])
     ensures { out.new ≡ render day lines.now ++ drop (38 * (length lines.now + 2)) out.old }
 {
     put_count(&mut out[0..RECORD], b'H', day);
-    let mut at = RECORD;
-    for line in lines {
+    for (i, line) in lines.iter().enumerate() {
+        let at = RECORD * (i + 1);
         put_line(&mut out[at..at + RECORD], line);
-        at += RECORD;
     }
+    let at = RECORD * (lines.len() + 1);
     put_count(&mut out[at..at + RECORD], b'T', lines.len() as u32);
 }
 
@@ -77,17 +82,13 @@ fn leg_fits(leg: Leg) -> bool
 
 /// The first leg of a line that is outside its limits.
 fn unfit_leg(legs: &[Leg]) -> Option<usize>
-    ensures { result ≡ unfit 0 legs.now }
+    ensures { result ≡ unfit legs.now }
 {
-    for (j, leg) in legs.iter().enumerate() {
-        if !leg_fits(*leg) {
-            return Some(j);
-        }
-    }
-    None
+    legs.iter().position(|leg| !leg_fits(*leg))
 }
 
 /// The first leg of all that is outside its limits.
+// Stays: a `for` that returns: in a chain, `find_map` would wrap the fault in an `Option`, only to be unwrapped again.
 fn fits(lines: &[Line]) -> Result<(), TextFault>
     ensures first { result ≡ fit_of_lines 0 lines.now }
     ensures all { AllFit result lines.now }

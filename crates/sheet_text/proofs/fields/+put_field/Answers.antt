@@ -1,12 +1,17 @@
-use Rattle.std.proofs.Common.{arith, rules}
-use Rattle.sheet_text.proofs.Columns.{put-none, put_small, put-big}
+use Rattle.std.proofs.Common.{◌≡◌, ◌+◌, length, ◌∙◌, rules}
+use Rattle.std.proofs.lemmas.Bool.{lt-ltb, le-ltb}
+use Rattle.sheet_text.proofs.Columns.{put-none, put_last}
 use Rattle.sheet_text.proofs.fields.+put_field.Goals as goal
 
-pub returns-then-w-eq0 : goal.returns-then-w-eq0
-returns-then-w-eq0 t c = put-none c.args.out.now c.args.n c.if-w-eq0.true
+pub returns-in_default : goal.returns-in_default
+returns-in_default t c = put-none c.args.out.now c.args.n (search rules)
 
 pub returns-then-n-lt10 : goal.returns-then-n-lt10
-returns-then-n-lt10 t c = put_small c.args.out.now c.fill.new.self c.args.n c.last_digit.result c.last_digit.ensures (omega arith) (omega arith) (c.fill.ensures.after (λ y e. search rules))
+returns-then-n-lt10 t c =
+    let w : length c.args.out.now ≡ length c.in-Some.front.now + 1 = search rules in
+    put_last _ (length c.in-Some.front.now) c.args.n c.last_digit.result c.fill.new.self w c.last_digit.ensures (c.fill.ensures.after (λ y e. search rules) ∙ simp (lt-ltb c.args.n 10 c.if-n-lt10.true))
 
 pub returns-else-n-lt10 : goal.returns-else-n-lt10
-returns-else-n-lt10 t c = put-big c.args.out.now c.put_field.new.out c.args.n c.last_digit.result c.last_digit.ensures (omega arith) (omega arith) c.put_field.ensures
+returns-else-n-lt10 t c =
+    let w : length c.args.out.now ≡ length c.in-Some.front.now + 1 = search rules in
+    put_last _ (length c.in-Some.front.now) c.args.n c.last_digit.result c.put_field.new.out w c.last_digit.ensures (c.put_field.ensures ∙ simp (le-ltb c.args.n 10 c.if-n-lt10.false))

@@ -1,21 +1,14 @@
-use Rattle.std.proofs.Common.{◌≡◌, List, [], length, get_or, sym, ◌∙◌, subst, rules}
-use Rattle.std.specs.List.{AllByRecursion}
-use Rattle.std.proofs.lemmas.List.{take_all}
+use Rattle.std.proofs.Common.{◌≡◌, [], length, get_or, sym, ◌∙◌, rules}
 use Rattle.std.proofs.ByRecursion.{All-more}
 use Rattle.terms.specs.declared.strategy.Line.{Line}
 use Rattle.terms.specs.declared.strategy.Kind.TheVariants.{Opposed}
-use Rattle.sheet_text.proofs.Writes.{fit_none, fit-some, fit_all}
+use Rattle.sheet_text.proofs.Writes.{fit_none}
 use Rattle.sheet_text.proofs.Fitting.{line-fits, first-unfit}
 use Rattle.sheet_text.proofs.writer.fits.Goals as goal
 use Rattle.sheet_text.specs.Sheet.{LineFits}
 
-pub returns-in-Some : goal.returns-in-Some
-returns-in-Some c =
-    let d : Line = record { kind = Opposed; legs = [] } in
-    record {
-      first = sym (sym c.loop-i.invariant.0 ∙ fit-some c.args.lines.now c.loop-i.i c.in-Some.j d c.loop-i-test.true c.in-Some.ensures);
-      all = first-unfit c.args.lines.now c.loop-i.i c.in-Some.j d c.loop-i-test.true c.loop-i.invariant.1 c.in-Some.ensures;
-    }
+pub returns-in-Some-clause-all : goal.returns-in-Some-clause-all
+returns-in-Some-clause-all c = first-unfit c.args.lines.now c.loop-i.i c.in-Some.j (record { kind = Opposed; legs = [] }) c.loop-i-test.true c.loop-i.invariant.1 c.in-Some.ensures
 
 pub loop-i-preserved : goal.loop-i-preserved
 loop-i-preserved c =
@@ -25,8 +18,3 @@ loop-i-preserved c =
       sym (fit_none c.args.lines.now c.loop-i.i d c.loop-i-test.true c.in_default.ensures) ∙ c.loop-i.invariant.0,
       All-more LineFits c.args.lines.now c.loop-i.i d c.loop-i-test.true c.loop-i.invariant.1 (line-fits l l4 c.in_default.ensures),
     )
-
-pub returns : goal.returns
-returns c =
-    let P : List Line → Type 0 = λ x. AllByRecursion LineFits x in
-    record { first = sym (sym c.loop-i.invariant.0 ∙ fit_all c.args.lines.now c.loop-i.i c.loop-i-test.false); all = subst P (take_all c.loop-i.i c.args.lines.now c.loop-i-test.false) c.loop-i.invariant.1 }
