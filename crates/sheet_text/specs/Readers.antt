@@ -1,5 +1,5 @@
 -- A reading on its way: where it stands, and what a record changes there.
-use Rattle.std.specs.Prelude.{◌≡◌, ℕ, ◌+◌, List, take, Ok, Err, Result}
+use Rattle.std.specs.Prelude.{◌≡◌, ℕ, ◌+◌, List, Ok, Err, Result}
 use denote.Ref.{Bor}
 use Rattle.terms.specs.declared.strategy.Line.{Line}
 use Rattle.sheet_text.specs.declared.reader.Reader.{Reader}
@@ -9,7 +9,7 @@ use Rattle.sheet_text.specs.Reading.{next_state, kept}
 
 -- the lines that are found so far
 abbrev pub lines_of : Reader → List Line
-lines_of r = take r.found r.lines
+lines_of r = r.found.items
 
 -- the reading goes on by what a record brings, with `step` more bytes read, or answers the record's fault
 abbrev pub Goes : Reader → Reader → ℕ → Result Brought TextFault → Result (Unit {0}) TextFault → Type 0

@@ -1,5 +1,6 @@
 // Reading a text: record after record, each by what may come next.
-ghost use Rattle.std.specs.Prelude.{◌≡◌, ◌+◌, ◌^◌, ◌<◌, ◌≤◌, min, length, IfOk};
+ghost use Rattle.std.specs.Prelude.{◌≡◌, ◌+◌, ◌^◌, ◌<◌, ◌≤◌, [], min, length, IfOk};
+ghost use Rattle.arrayvec.specs.ArrayVec.{array_vec_len};
 ghost use Rattle.terms.specs.Limits.{most_lines};
 ghost use Rattle.sheet_text.specs.Columns.{blank, field_of};
 ghost use Rattle.sheet_text.specs.Records.{strategy, part, shape_of, Wide};
@@ -11,15 +12,9 @@ ghost use Rattle.sheet_text.specs.Told.{Told};
 use crate::fault::TextFault;
 use crate::fields::{is_blank, parse_field};
 use crate::records::{Count, RECORD, Record, record_of};
+use arrayvec::ArrayVec;
 use terms::limits::{Day, HasLimits, MAX_LINES};
 use terms::strategy::{Kind, Leg, Line};
-
-const UNUSED: Leg = Leg { row: 0, lots: 0 };
-
-const NO_LINE: Line = Line {
-    kind: Kind::Opposed,
-    legs: [UNUSED, UNUSED, UNUSED, UNUSED],
-};
 
 /// What may come next.
 #[derive(Clone, Copy)]
@@ -35,7 +30,7 @@ fn leg_of(field: &[u8], at: u64) -> Result<Leg, TextFault>
     ensures { result ≡ leg_of at field.now }
 {
     if is_blank(field) {
-        return Ok(UNUSED);
+        return Ok(Leg::default());
     }
     let row = parse_field(&field[0..3]).ok_or(TextFault::IllFormed { at })?;
     match parse_field(&field[3..9]) {
@@ -85,11 +80,8 @@ struct Reader {
     room: usize,
     at: u64,
     state: State,
-    found: usize,
-    // Stays: an array and a count, since an `ArrayVec` asks for a default line, and there is none.
-    lines: [Line; MAX_LINES],
-    ghost within: { (found ≤ room) × (room ≤ most_lines) },
-    ghost entries: { length lines ≡ most_lines },
+    found: ArrayVec<Line, MAX_LINES>,
+    ghost within: { (array_vec_len found ≤ room) × (room ≤ most_lines) },
 }
 
 impl Reader {
@@ -98,22 +90,21 @@ impl Reader {
     /// Before the first record, with room for as many lines as there are entries.
     fn new(day: u64, entries: usize) -> Reader
         ensures held { (result.day ≡ day) × (result.room ≡ min entries most_lines) }
-        ensures front { (result.at ≡ 0) × (result.state ≡ Head) × (result.found ≡ 0) }
+        ensures front { (result.at ≡ 0) × (result.state ≡ Head) × (lines_of result ≡ []) }
     {
         Reader {
             day,
             room: entries.min(MAX_LINES),
             at: 0,
             state: State::Head,
-            found: 0,
-            lines: [NO_LINE; MAX_LINES],
+            found: ArrayVec::new(),
         }
     }
 
     /// Takes a record's fields, where such a record may come next.
     fn turn(&mut self, came: Record<'_>) -> Result<(), TextFault>
         requires { (Wide (shape_of came)) × (self.old.at + 38 < 2 ^ 64) }
-        ensures { Goes self.old self.new 0 (turned self.old.day self.old.room self.old.found self.old.at self.old.state (shape_of came.entry)) result }
+        ensures { Goes self.old self.new 0 (turned self.old.day self.old.room (length (lines_of self.old)) self.old.at self.old.state (shape_of came.entry)) result }
     {
         match (self.state, came) {
             (State::Head, Record::Head(count)) => {
@@ -122,17 +113,17 @@ impl Reader {
                 Ok(())
             }
             (State::Strategies, Record::Strategy(kind, first, second, third, fourth)) => {
-                if self.found == self.room {
+                if self.found.len() == self.room {
                     return Err(TextFault::TooManyLines {
                         limit: self.room as u64,
                     });
                 }
-                self.lines[self.found] = line_of(kind, [first, second, third, fourth], self.at)?;
-                self.found += 1;
+                let line = line_of(kind, [first, second, third, fourth], self.at)?;
+                self.found.push(line);
                 Ok(())
             }
             (State::Strategies, Record::Trailer(count)) => {
-                count_is(count, self.found as u64, self.at)?;
+                count_is(count, self.found.len() as u64, self.at)?;
                 self.state = State::End;
                 Ok(())
             }
@@ -143,7 +134,7 @@ impl Reader {
     /// Reads the record that comes next.
     fn take(&mut self, bytes: &[u8]) -> Result<(), TextFault>
         requires { self.old.at + 38 < 2 ^ 64 }
-        ensures { Goes self.old self.new 38 (step_of self.old.day self.old.room self.old.found self.old.at self.old.state bytes.now) result }
+        ensures { Goes self.old self.new 38 (step_of self.old.day self.old.room (length (lines_of self.old)) self.old.at self.old.state bytes.now) result }
     {
         let came = record_of(bytes, self.at)?;
         self.turn(came)?;
@@ -157,7 +148,7 @@ impl Reader {
         ensures few { IfOk result (λ lines. length lines.now ≤ self.now.room) }
     {
         match self.state {
-            State::End => Ok(&self.lines[0..self.found]),
+            State::End => Ok(self.found.as_slice()),
             _ => Err(TextFault::OutOfTurn { at: self.at }),
         }
     }

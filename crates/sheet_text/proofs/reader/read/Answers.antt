@@ -1,12 +1,9 @@
 use Rattle.std.proofs.Common.{◌≡◌, ℕ, ◌-◌, ◌<◌, ◌≤◌, min, List, ◌++◌, length, Ok, Err, refl, ap, ◌∙◌, arith, rules}
-use Rattle.std.proofs.lemmas.List.{length-take-le}
 use borrow.Rule.Slice.PartMut.{post_of}
 use Rattle.terms.specs.declared.strategy.Line.{Line}
-use Rattle.sheet_text.specs.declared.reader.Reader.{Reader}
 use Rattle.std.proofs.lemmas.Result.{err_from_is_err_and}
 use Rattle.std.specs.Slice.Iter.{chunks_rest}
 use Rattle.sheet_text.specs.Reading.{reads, ReadIs}
-use Rattle.sheet_text.specs.Readers.{lines_of}
 use Rattle.sheet_text.proofs.Readings.{told-all}
 use Rattle.sheet_text.proofs.Scans.{reading_start, begins, reading_more, reading_err, reading_end, read_err, read_done}
 use Rattle.sheet_text.proofs.reader.read.Goals as goal
@@ -21,20 +18,17 @@ take-requires c =
     let lt : c.loop-piece.reader.at < length c.args.text.now = begins _ _ c.args.text.now c.loop-piece.reader _ c.loop-piece.invariant.1 s.2 in
     search rules
 
-found : (r : Reader) → length (lines_of r) ≡ r.found
-found r = let a = r.within.0 in let b = r.within.1 in let c = r.entries in length-take-le r.found r.lines (omega arith)
-
 pub loop-piece-preserved : goal.loop-piece-preserved
 loop-piece-preserved c =
     let s = c.in-Some.ensures.steps.1 in
-    (search rules, reading_more c.args.day (min (length c.args.list.now) 64) c.args.text.now c.loop-piece.reader c.take.new.self _ c.in-Some.piece.now _ c.loop-piece.invariant.1 (found c.loop-piece.reader) s.0 (s.1 ∙ ap (λ (k : ℕ). min k (length (chunks_rest c.loop-piece.piece-iterator))) c.loop-piece.invariant.0) s.2 c.in_ok-take.ensures)
+    (search rules, reading_more c.args.day (min (length c.args.list.now) 64) c.args.text.now c.loop-piece.reader c.take.new.self _ c.in-Some.piece.now _ c.loop-piece.invariant.1 s.0 (s.1 ∙ ap (λ (k : ℕ). min k (length (chunks_rest c.loop-piece.piece-iterator))) c.loop-piece.invariant.0) s.2 c.in_ok-take.ensures)
 
 pub returns-in_err-take : goal.returns-in_err-take
 returns-in_err-take c =
     let s = c.in-Some.ensures.steps.1 in
     let p = err_from_is_err_and c.from_residual.result c.from_residual.ensures.1 in
     let e : Err c.in_err-take.field-0.0 ≡ reads c.args.day (min (length c.args.list.now) 64) c.args.text.now =
-    reading_err c.args.day (min (length c.args.list.now) 64) c.args.text.now c.loop-piece.reader c.take.new.self _ c.in-Some.piece.now _ c.loop-piece.invariant.1 (found c.loop-piece.reader) s.0 (s.1 ∙ ap (λ (k : ℕ). min k (length (chunks_rest c.loop-piece.piece-iterator))) c.loop-piece.invariant.0) s.2 c.in_err-take.field-0.0 c.in_err-take.ensures in
+    reading_err c.args.day (min (length c.args.list.now) 64) c.args.text.now c.loop-piece.reader c.take.new.self _ c.in-Some.piece.now _ c.loop-piece.invariant.1 s.0 (s.1 ∙ ap (λ (k : ℕ). min k (length (chunks_rest c.loop-piece.piece-iterator))) c.loop-piece.invariant.0) s.2 c.in_err-take.field-0.0 c.in_err-take.ensures in
     let x : ReadIs c.args.day c.args.text.now c.args.list.now c.args.list.now (Err c.in_err-take.field-0.0) = read_err c.args.day c.args.text.now c.args.list.now c.in_err-take.field-0.0 (search rules) e in
     let l = told-all c.args.day c.args.text.now c.args.list.now c.args.list.now (Err c.in_err-take.field-0.0) refl x in
     rw (p.1, p.2) (record { exact = x; accepted = l.0; refused = l.1; again = l.2; told = l.3 })
