@@ -1,17 +1,16 @@
 // Carries out the commands of a journal.
-ghost use Rattle.std.specs.Prelude.{◌≡◌, Option as Maybe};
-ghost use Rattle.journal.specs.Commands.{ordered, said};
+ghost use Rattle.std.specs.Prelude.{◌≡◌};
+ghost use Rattle.journal.specs.Commands.{ordered};
 ghost use Rattle.rates.specs.Scale.{scale_rate};
-ghost use Rattle.desk.specs.Present.{base_rate, present_rate};
-ghost use Rattle.desk.specs.Answers.{contents, Checks, Copies, Surcharges, CarriesOut, Answers, rate_answer};
+ghost use Rattle.desk.specs.Present.{present_rate};
+ghost use Rattle.desk.specs.Answers.{contents, Surcharges, CarriesOut, Answers};
 
 use crate::present::{Base, PresentRates};
 use crate::sheets;
-use journal::answer::{Answer, Reply};
-use journal::command::{Command, Reading, SheetFile};
-use journal::fault::Fault;
+use journal::answer::{Answer, Refusal, Reply};
+use journal::command::{Command, ReadError};
 use rates::percentages::Percentages;
-use rates::rate_book::{Quote, RateBook};
+use rates::rate_book::RateBook;
 use rates::scale::Scale;
 use std::alloc::Global;
 use terms::limits::SECURITIES;
@@ -34,80 +33,49 @@ impl Desk {
 
     /// Answers what a line of a journal says; nothing where the line is skipped. `file` is what the file holds that the
     /// line names, and none where it names none or the file cannot be opened.
-    pub fn answer(&mut self, heap: Global, line: Reading, file: Option<Vec<u8>>) -> Option<Reply>
-        ensures { Answers (said line) (contents file) (present_rate self.old.rates) result (present_rate self.new.rates) }
+    pub fn answer(
+        &mut self,
+        heap: Global,
+        line: Result<Option<Command>, ReadError>,
+        file: Option<Vec<u8>>,
+    ) -> Result<Option<Reply>, Refusal>
+        ensures { Answers line (contents file) (present_rate self.old.rates) result (present_rate self.new.rates) }
     {
-        match line {
-            Reading::Skipped => None,
-            Reading::Unreadable(fault) => Some(Reply::Line(Answer::Error(fault))),
-            Reading::Command(command) => Some(self.carry_out(heap, command, file)),
+        match line? {
+            Some(command) => Ok(Some(self.carry_out(heap, command, file)?)),
+            None => Ok(None),
         }
     }
 
-    fn carry_out(&mut self, heap: Global, command: Command, file: Option<Vec<u8>>) -> Reply
+    fn carry_out(
+        &mut self,
+        heap: Global,
+        command: Command,
+        file: Option<Vec<u8>>,
+    ) -> Result<Reply, Refusal>
         ensures { CarriesOut (ordered command) (contents file) (present_rate self.old.rates) result (present_rate self.new.rates) }
     {
         match command {
-            Command::RatesScale => Reply::Line(self.ask(Base::Scale(Scale))),
-            Command::RatesList(amounts) => Reply::Line(self.ask(Base::List(amounts))),
-            Command::Surcharge(each) => Reply::Line(self.surcharge(each)),
-            Command::Rate(quote) => Reply::Line(self.rate(&quote)),
-            Command::Check(sheet) => Reply::Line(check(sheet, file)),
-            Command::Copy(sheet) => copy(heap, sheet, file),
+            Command::RatesScale => {
+                self.rates.replace(Base::Scale(Scale));
+                Ok(Reply::Line(Answer::Done))
+            }
+            Command::RatesList(amounts) => {
+                self.rates.replace(Base::List(amounts));
+                Ok(Reply::Line(Answer::Done))
+            }
+            Command::Surcharge(each) => self.surcharge(each),
+            Command::Rate(quote) => Ok(Reply::Line(Answer::Rate(self.rates.rate(&quote)))),
+            Command::Check(sheet) => sheets::check(sheet.day, file),
+            Command::Copy(sheet) => sheets::copy(heap, sheet.day, file),
         }
     }
 
-    fn ask(&mut self, base: Base) -> Answer
-        ensures told { result ≡ Answer.Done }
-        ensures table { present_rate self.new.rates ≡ base_rate base }
-    {
-        self.rates.replace(base);
-        Answer::Done
-    }
-
-    fn surcharge(&mut self, each: [u64; SECURITIES]) -> Answer
+    fn surcharge(&mut self, each: [u64; SECURITIES]) -> Result<Reply, Refusal>
         ensures { Surcharges each (present_rate self.old.rates) result (present_rate self.new.rates) }
     {
-        match Percentages::new(each) {
-            Ok(percentages) => match self.rates.add(percentages) {
-                Ok(()) => Answer::Done,
-                Err(_) => Answer::NoMemory,
-            },
-            Err(fault) => Answer::Denied(Fault::Surcharge(fault)),
-        }
-    }
-
-    fn rate(&mut self, quote: &Quote) -> Answer
-        ensures told { result ≡ rate_answer (present_rate self.old.rates quote.now) }
-        ensures kept { present_rate self.new.rates ≡ present_rate self.old.rates }
-    {
-        rate_answer(self.rates.rate(quote))
-    }
-}
-
-fn rate_answer(rate: Option<u64>) -> Answer
-    ensures { result ≡ rate_answer rate }
-{
-    match rate {
-        Some(amount) => Answer::Rate(amount),
-        None => Answer::NoRate,
-    }
-}
-
-fn check(sheet: SheetFile, file: Option<Vec<u8>>) -> Answer
-    ensures { Checks sheet.day (contents file) result }
-{
-    match file {
-        Some(text) => sheets::check(sheet.day, text.as_slice()),
-        None => Answer::NoFile,
-    }
-}
-
-fn copy(heap: Global, sheet: SheetFile, file: Option<Vec<u8>>) -> Reply
-    ensures { Copies sheet.day (contents file) result }
-{
-    match file {
-        Some(text) => sheets::copy(heap, sheet.day, text.as_slice()),
-        None => Reply::Line(Answer::NoFile),
+        let percentages = Percentages::new(each)?;
+        self.rates.add(percentages)?;
+        Ok(Reply::Line(Answer::Done))
     }
 }

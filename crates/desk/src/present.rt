@@ -39,11 +39,10 @@ pub struct PresentRates {
 fn raise_by_all(surcharges: &[Percentages], security: u64, amount: u64) -> u64
     ensures { Some result ≡ stacked surcharges.now security (Some amount) }
 {
-    let mut raised = amount;
-    for percentages in surcharges {
-        raised = percentages.raise(security, raised);
-    }
-    raised
+    surcharges.iter().fold(
+        amount,
+        |raised, percentages| percentages.raise(security, raised),
+    )
 }
 
 impl PresentRates {
@@ -66,6 +65,7 @@ impl PresentRates {
     }
 
     /// From here on with one surcharge more.
+    #[tactic(auto, using(crate::proofs::Stacks::stacked_push))]
     pub fn add(&mut self, percentages: Percentages) -> Result<(), AllocError>
         ensures { MatchResult result (λ _. present_rate self.new ≡ surcharged_rate percentages.each (present_rate self.old)) (λ _. present_rate self.new ≡ present_rate self.old) }
     {
@@ -79,6 +79,7 @@ impl RateBook for PresentRates {
 
     ghost capped = { λ present q. present-capped present q };
 
+    #[tactic(auto, using(crate::proofs::Stacks::stacked_none))]
     fn rate(&mut self, quote: &Quote) -> Option<u64> {
         let amount = self.base.rate(quote)?;
         Some(raise_by_all(self.surcharges.as_slice(), quote.security, amount))

@@ -17,11 +17,13 @@ use terms::OptionType;
 
 // What the desk answers; none to a blank line and a comment.
 fn answered(heap: Global, desk: &mut Desk, command: &str) -> Result<Option<String>, AllocError> {
-    match desk.answer(heap, read(heap, command.as_bytes())?, None) {
-        Some(Reply::Line(answer)) => Ok(Some(answer.to_string(heap)?)),
-        Some(Reply::Sheet(_)) => Ok(Some(String::from_str(heap, "a sheet")?)),
-        None => Ok(None),
-    }
+    let answer = match desk.answer(heap, read(heap, command.as_bytes()), None) {
+        Ok(Some(Reply::Line(answer))) => answer.to_string(heap)?,
+        Ok(Some(Reply::Sheet(_))) => String::from_str(heap, "a sheet")?,
+        Ok(None) => return Ok(None),
+        Err(refusal) => refusal.to_string(heap)?,
+    };
+    Ok(Some(answer))
 }
 
 // What is said to be the answer to a command, and what the desk answers.
@@ -32,17 +34,12 @@ struct Comparison {
 }
 
 fn compare(heap: Global, desk: &mut Desk, line: &str) -> Result<Option<Comparison>, AllocError> {
-    let (command, figure) = match line.split_once(" = ") {
-        Some(parts) => parts,
-        None => (line, "a figure"),
+    let (command, figure) = line.split_once(" = ").unwrap_or((line, "a figure"));
+    let Some(answer) = answered(heap, desk, command)? else {
+        return Ok(None);
     };
-    match answered(heap, desk, command)? {
-        Some(answer) => Ok(Some(Comparison {
-            figure: String::from_str(heap, figure)?,
-            answer,
-        })),
-        None => Ok(None),
-    }
+    let figure = String::from_str(heap, figure)?;
+    Ok(Some(Comparison { figure, answer }))
 }
 
 fn compare_all(rt: &HostRuntime) -> io::Result<()> {

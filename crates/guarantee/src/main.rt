@@ -2,48 +2,42 @@
 #![tactic(auto)]
 
 use desk::desk::Desk;
-use journal::answer::{Answer, Reply};
-use journal::command::{Reading, read};
-use journal::words::without_line_feed;
+use journal::answer::{Refusal, Reply};
+use journal::command::{Command, read};
 use std::io::{BufRead, BufReader, BufWriter, Stdout, Write};
-use std::{fs, io};
+use std::{fs, io, str};
 
-/// What the file holds that a line names; none where it names none or the file cannot be opened.
-fn fetch(rt: &HostRuntime, line: &Reading) -> Option<Vec<u8>> {
-    let name = std::str::from_utf8(line.file()?).ok()?;
+/// What the file holds that a command names; none where it names none or the file cannot be opened.
+fn fetch(rt: &HostRuntime, command: &Command) -> Option<Vec<u8>> {
+    let name = str::from_utf8(command.file()?).ok()?;
     fs::read(rt, name).ok()
 }
 
-fn reply(rt: &HostRuntime, desk: &mut Desk, line: &[u8]) -> Option<Reply> {
-    match read(rt.alloc(), without_line_feed(line)) {
-        Ok(said) => {
-            let file = fetch(rt, &said);
-            desk.answer(rt.alloc(), said, file)
-        }
-        Err(_) => Some(Reply::Line(Answer::NoMemory)),
-    }
+fn answer(rt: &HostRuntime, desk: &mut Desk, line: &[u8]) -> Result<Option<Reply>, Refusal> {
+    let said = read(rt.alloc(), line);
+    let file = if let Ok(Some(command)) = &said {
+        fetch(rt, command)
+    } else {
+        None
+    };
+    desk.answer(rt.alloc(), said, file)
 }
 
-fn show(output: &mut BufWriter<Stdout>, reply: Reply) -> io::Result<()> {
-    match reply {
-        Reply::Line(answer) => writeln!(output, "{answer}"),
-        Reply::Sheet(text) => output.write_all(text.as_slice()),
+fn show(output: &mut BufWriter<Stdout>, answer: Result<Option<Reply>, Refusal>) -> io::Result<()> {
+    match answer {
+        Ok(Some(Reply::Line(answer))) => writeln!(output, "{answer}"),
+        Ok(Some(Reply::Sheet(text))) => output.write_all(text.as_slice()),
+        Ok(None) => Ok(()),
+        Err(refusal) => writeln!(output, "{refusal}"),
     }
 }
 
 fn play(rt: &HostRuntime) -> io::Result<()> {
-    let mut input = BufReader::new(rt.alloc(), rt.stdin())?;
+    let input = BufReader::new(rt.alloc(), rt.stdin())?;
     let mut output = BufWriter::new(rt.alloc(), rt.stdout())?;
     let mut desk = Desk::new(rt.alloc());
-    let mut line = Vec::new(rt.alloc());
-    for _ in 0..u64::MAX {
-        line.clear();
-        if input.read_until(b'\n', &mut line)? == 0 {
-            break;
-        }
-        if let Some(reply) = reply(rt, &mut desk, line.as_slice()) {
-            show(&mut output, reply)?;
-        }
+    for line in input.split(rt.alloc(), b'\n') {
+        show(&mut output, answer(rt, &mut desk, line?.as_slice()))?;
     }
     output.flush()
 }

@@ -1,14 +1,16 @@
 -- The words of a line by their index, and the numbers that they write.
-use Rattle.std.proofs.Common.{◌≡◌, ℕ, ◌+◌, ◌-◌, ◌<◌, ◌≤◌, false, leb, List, [], ◌∷◌, ◌++◌, length, get_or, take, drop, set, replicate, Ok, Err, Result, sym, refl, ap, ◌∙◌, append_assoc, append-nil, arith, Bor}
+use Rattle.std.proofs.Common.{◌≡◌, ℕ, ◌+◌, ◌-◌, ◌<◌, ◌≤◌, leb, List, [], ◌∷◌, ◌++◌, length, get_or, take, drop, set, replicate, Ok, Err, Result, sym, refl, ap, ◌∙◌, append_assoc, append-nil, arith, Bor}
 use Rattle.std.proofs.lemmas.List.{get_or-map, length-map, at_drop_more, at_drop_all, length-set, length-take-le, take-append-drop, take_more_set, drop-set-lt, drop-drop, drop-replicate}
-use Rattle.std.proofs.lemmas.Bool.{cond-true, cond-false, le-leb}
-use Rattle.journal.specs.declared.command.Command.{Command}
+use Rattle.std.specs.Result.{MatchResult, IsErrAnd}
+use Rattle.std.proofs.lemmas.Bool.{cond-true, le-leb}
+use Rattle.std.proofs.lemmas.Result.{err_from_is_err_and}
 use Rattle.journal.specs.declared.command.Unreadable.{Unreadable}
-use Rattle.journal.specs.Words.{texts, words_of}
-use Rattle.journal.specs.Commands.{surcharge, skipped, next, number_at, numbers_at, numbers_from, surcharge_of, order_of, saying, saying_of, is_comment, reading, heard}
+use Rattle.journal.specs.declared.words.NotNumber.{NotNumber}
+use Rattle.journal.specs.Words.{texts}
+use Rattle.journal.specs.Commands.{surcharge, next, fault_at, placed, number_at, numbers_at, numbers_from, surcharge_of}
 
-pub length-texts : (parts : List (Bor (List ℕ))) → length (texts parts) ≡ length parts
-length-texts parts = length-map parts (λ part. part.now)
+pub length_texts : (parts : List (Bor (List ℕ))) → length (texts parts) ≡ length parts
+length_texts parts = length-map parts (λ part. part.now)
 
 pub word_at : (parts : List (Bor (List ℕ))) (k : ℕ) (d : Bor (List ℕ)) → k < length parts → get_or (texts parts) k [] ≡ (get_or parts k d).now
 word_at parts k d h = get_or-map (λ (part : Bor (List ℕ)). part.now) parts k d [] h
@@ -83,11 +85,7 @@ module _ {line : List (List ℕ)} {all : List ℕ} {k : ℕ} (so_far : Filled li
       let missing : 16 - length (take (k - 1) all) ≡ 17 - k = omega arith in
       surcharge-is ∙ rw (← so_far.reads, ahead-all line (take (k - 1) all) k h) (ap (λ (l : List ℕ). Ok (surcharge l)) (rw (missing, ← so_far.zeros) (take-append-drop (k - 1) all)))
 
--- read
-pub saying-empty : (line : List ℕ) (parts : List (Bor (List ℕ))) → is_comment line ≡ false → texts parts ≡ words_of line → length parts ≡ 0 → reading line ≡ skipped
-saying-empty line [] plain cut none = cond-false (is_comment line) _ _ plain ∙ ap saying_of (sym cut)
-saying-empty line (part ∷ parts) plain cut none = absurd (omega arith)
-
-pub saying-is : (line : List ℕ) (parts : List (Bor (List ℕ))) (given : Result Command Unreadable) → is_comment line ≡ false → texts parts ≡ words_of line → 0 < length parts → heard given ≡ order_of (texts parts) → reading line ≡ saying (heard given)
-saying-is line [] given plain cut some told = absurd (omega arith)
-saying-is line (part ∷ parts) given plain cut some told = cond-false (is_comment line) _ _ plain ∙ ap saying_of (sym cut) ∙ ap saying (sym told)
+-- number_at
+pub placed-is : {P : NotNumber → Unreadable → Type 0} (k : ℕ) (r : Result ℕ NotNumber) (m : Result ℕ Unreadable) → MatchResult r (λ n. m ≡ Ok n) (λ fault. IsErrAnd m (P fault)) → ((fault : NotNumber) (e : Unreadable) → P fault e → e ≡ fault_at k fault) → m ≡ placed k r
+placed-is k (Ok n) m h is = h
+placed-is k (Err fault) m h is = let p = err_from_is_err_and m h in p.1 ∙ ap (λ (e : Unreadable). Err e) (is fault p.0 p.2)

@@ -1,24 +1,20 @@
 -- What a line of the journal says.
-use Rattle.std.specs.Prelude.{ℕ, ◌+◌, ◌-◌, Bool, cond, List, [], ◌∷◌, ◌++◌, length, drop, replicate, Some, None, Ok, Err, vec_items, codes, Option, Result, Vec, ◌==◌, nat_le, slice_index, slice_index_or}
+use Rattle.std.specs.Prelude.{◌≡◌, ℕ, ◌+◌, ◌-◌, Bool, cond, List, [], ◌∷◌, ◌++◌, length, drop, replicate, Some, None, Ok, Err, vec_items, codes, Option, Result, ◌==◌, nat_le, ⊤, slice_index, slice_index_or}
 use Rattle.std.specs.Str.{bytes_eq}
-use Rattle.std.specs.declared.alloc.Global.{Global}
+use Rattle.std.specs.Option.{ok_or}
 use Rattle.terms.specs.declared.OptionType.{OptionType}
 use Rattle.terms.specs.declared.OptionType.TheVariants.{Call, Put}
 use Rattle.rates.specs.declared.rate_book.Quote.{Quote}
 use Rattle.journal.specs.Words.{words_of, number_of}
 use Rattle.journal.specs.declared.words.NotNumber as words
 use Rattle.journal.specs.declared.words.NotNumber.TheVariants as no_number
-use Rattle.journal.specs.declared.command.Verb.{Verb}
-use Rattle.journal.specs.declared.command.Verb.TheVariants as verb
-use Rattle.journal.specs.declared.command.Source.{Source}
-use Rattle.journal.specs.declared.command.Source.TheVariants as source
 use Rattle.journal.specs.declared.command.Command.{Command}
 use Rattle.journal.specs.declared.command.Command.TheVariants as code
 use Rattle.journal.specs.declared.command.SheetFile.{SheetFile}
 use Rattle.journal.specs.declared.command.Unreadable.{Unreadable}
 use Rattle.journal.specs.declared.command.Unreadable.TheVariants.{UnknownCommand, WordCount, NoSuchRates, NotNumber, TooManyDigits, NotOptionType}
-use Rattle.journal.specs.declared.command.Reading.{Reading}
-use Rattle.journal.specs.declared.command.Reading.TheVariants as reads
+use Rattle.journal.specs.declared.command.ReadError.{ReadError}
+use Rattle.journal.specs.declared.command.ReadError.TheVariants as read_error
 
 -- a command, with what it lists as a plain list
 pub data Order : Type 0 where
@@ -29,12 +25,6 @@ pub data Order : Type 0 where
   check : (day : ℕ) (file : List ℕ) → Order
   copy : (day : ℕ) (file : List ℕ) → Order
 
--- what a line says
-pub data Saying : Type 0 where
-  skipped : Saying
-  command : Order → Saying
-  unreadable : Unreadable → Saying
-
 -- a word is a keyword
 unfoldable pub spells : List ℕ → List ℕ → Bool
 spells word keyword = bytes_eq word keyword
@@ -43,11 +33,6 @@ spells word keyword = bytes_eq word keyword
 abbrev pub next : {X Y : Type 0} → Result X Unreadable → (X → Result Y Unreadable) → Result Y Unreadable
 next (Ok x) then = then x
 next (Err fault) then = Err fault
-
--- what a keyword goes on with, or the fault where a word is none
-abbrev pub chosen : {X Y : Type 0} → Option X → Unreadable → (X → Result Y Unreadable) → Result Y Unreadable
-chosen (Some x) fault then = then x
-chosen None fault then = Err fault
 
 -- what is wrong with a number, and where
 abbrev pub fault_at : ℕ → words.NotNumber → Unreadable
@@ -86,7 +71,7 @@ option_of word =
 
 -- the option type at index k
 unfoldable pub option_at : List (List ℕ) → ℕ → Result OptionType Unreadable
-option_at line k = chosen (option_of (slice_index_or line k [])) (NotOptionType k) Ok
+option_at line k = ok_or (option_of (slice_index_or line k [])) (NotOptionType k)
 
 -- `rates scale`
 abbrev pub rates_scale_of : List (List ℕ) → Result Order Unreadable
@@ -96,20 +81,15 @@ rates_scale_of line = next (has_count line 2) (λ _. Ok rates_scale)
 abbrev pub rates_list_of : List (List ℕ) → Result Order Unreadable
 rates_list_of line = next (numbers_from line 2) (λ amounts. Ok (rates_list amounts))
 
--- where the rates come from, by the second word of `rates`
-abbrev pub source_of : List ℕ → Option Source
-source_of word =
-    cond (spells word (codes "scale")) (Some source.Scale)
-    (cond (spells word (codes "list")) (Some source.Listed) None)
-
 -- the rest of `rates`, by its second word
-abbrev pub rates_by : Source → List (List ℕ) → Result Order Unreadable
-rates_by source.Scale line = rates_scale_of line
-rates_by source.Listed line = rates_list_of line
+abbrev pub rates_by : List ℕ → List (List ℕ) → Result Order Unreadable
+rates_by source line =
+    cond (spells source (codes "scale")) (rates_scale_of line)
+    (cond (spells source (codes "list")) (rates_list_of line) (Err NoSuchRates))
 
 -- `rates`: its second word is tested before the count of words
 unfoldable pub rates_of : List (List ℕ) → Result Order Unreadable
-rates_of line = chosen (source_of (slice_index_or line 1 [])) NoSuchRates (λ source. rates_by source line)
+rates_of line = rates_by (slice_index_or line 1 []) line
 
 -- `surcharge P0 P1 ..`: 16 numbers, 0 where none is given
 unfoldable pub surcharge_of : List (List ℕ) → Result Order Unreadable
@@ -152,44 +132,27 @@ check_of line = next (sheet_file_of line) (λ sheet. Ok (check sheet.day sheet.f
 abbrev pub copy_of : List (List ℕ) → Result Order Unreadable
 copy_of line = next (sheet_file_of line) (λ sheet. Ok (copy sheet.day sheet.file))
 
--- the command that a word begins
-abbrev pub verb_of : List ℕ → Option Verb
-verb_of word =
-    cond (spells word (codes "rates")) (Some verb.Rates)
-    (cond (spells word (codes "surcharge")) (Some verb.Surcharge)
-    (cond (spells word (codes "rate")) (Some verb.Rate)
-    (cond (spells word (codes "check")) (Some verb.Check)
-    (cond (spells word (codes "copy")) (Some verb.Copy) None))))
-
--- the rest of a command, by its first word
-abbrev pub order_by : Verb → List (List ℕ) → Result Order Unreadable
-order_by verb.Rates line = rates_of line
-order_by verb.Surcharge line = surcharge_of line
-order_by verb.Rate line = rate_of line
-order_by verb.Check line = check_of line
-order_by verb.Copy line = copy_of line
-
--- the command that the words of a line give
-unfoldable pub order_of : List (List ℕ) → Result Order Unreadable
-order_of line = chosen (verb_of (slice_index_or line 0 [])) UnknownCommand (λ verb. order_by verb line)
-
--- a command or a fault, as what a line says
-abbrev pub saying : Result Order Unreadable → Saying
-saying (Ok order) = command order
-saying (Err fault) = unreadable fault
+-- the command that the words of a line give, the first of which is `verb`
+abbrev pub order_by : List ℕ → List (List ℕ) → Result Order Unreadable
+order_by verb line =
+    cond (spells verb (codes "rates")) (rates_of line)
+    (cond (spells verb (codes "surcharge")) (surcharge_of line)
+    (cond (spells verb (codes "rate")) (rate_of line)
+    (cond (spells verb (codes "check")) (check_of line)
+    (cond (spells verb (codes "copy")) (copy_of line) (Err UnknownCommand)))))
 
 -- a line with no words is skipped
-abbrev pub saying_of : List (List ℕ) → Saying
-saying_of [] = skipped
-saying_of (word ∷ line) = saying (order_of (word ∷ line))
+abbrev pub reading_of : List (List ℕ) → Result (Option Order) Unreadable
+reading_of [] = Ok None
+reading_of (word ∷ line) = next (order_by word (word ∷ line)) (λ order. Ok (Some order))
 
 -- the line begins with `#`
 abbrev pub is_comment : List ℕ → Bool
 is_comment line = slice_index line 0 == 35
 
--- what a line says: a comment is skipped
-abbrev pub reading : List ℕ → Saying
-reading line = cond (is_comment line) skipped (saying_of (words_of line))
+-- what a line says: a command, nothing where it is skipped, or why it is unreadable; a comment is skipped
+abbrev pub reading : List ℕ → Result (Option Order) Unreadable
+reading line = cond (is_comment line) (Ok None) (reading_of (words_of line))
 
 -- the file that a command wants to read
 abbrev pub order_file : Order → Option (List ℕ)
@@ -200,12 +163,6 @@ order_file (rate quote) = None
 order_file (check day file) = Some file
 order_file (copy day file) = Some file
 
--- the file that a line names
-abbrev pub file_of : Saying → Option (List ℕ)
-file_of skipped = None
-file_of (command order) = order_file order
-file_of (unreadable fault) = None
-
 -- a command that was read, with plain lists
 abbrev pub ordered : Command → Order
 ordered code.RatesScale = rates_scale
@@ -215,23 +172,17 @@ ordered (code.Rate quote) = rate quote
 ordered (code.Check sheet) = check sheet.day (vec_items sheet.file)
 ordered (code.Copy sheet) = copy sheet.day (vec_items sheet.file)
 
+-- a day and a file that were read, with a plain list
+abbrev pub dated : SheetFile → DatedFile
+dated sheet = record { day = sheet.day; file = vec_items sheet.file }
+
 -- what was read of the words, with plain lists
 abbrev pub heard : Result Command Unreadable → Result Order Unreadable
 heard (Ok given) = Ok (ordered given)
 heard (Err fault) = Err fault
 
--- numbers that were read, as a plain list
-abbrev pub listed : Result (Vec ℕ Global) Unreadable → Result (List ℕ) Unreadable
-listed (Ok numbers) = Ok (vec_items numbers)
-listed (Err fault) = Err fault
-
--- a day and a file that were read, with plain lists
-abbrev pub filed : Result SheetFile Unreadable → Result DatedFile Unreadable
-filed (Ok sheet) = Ok (record { day = sheet.day; file = vec_items sheet.file })
-filed (Err fault) = Err fault
-
--- what was read of a line, with plain lists
-abbrev pub said : Reading → Saying
-said reads.Skipped = skipped
-said (reads.Command given) = command (ordered given)
-said (reads.Unreadable fault) = unreadable fault
+-- what was read, seen by `view`, is what the words say, unless memory was wanting
+abbrev pub Tells : {T X : Type 0} → (T → X) → Result X Unreadable → Result T ReadError → Type 0
+Tells view words (Ok given) = Ok (view given) ≡ words
+Tells view words (Err read_error.OutOfMemory) = ⊤
+Tells view words (Err (read_error.Unreadable fault)) = Err fault ≡ words

@@ -1,9 +1,14 @@
 // The answers to a journal's commands, and how each is written.
-ghost use Rattle.std.specs.Prelude.{Some};
-ghost use Rattle.journal.specs.Answers.{unreadable_text, answer_text};
+ghost use Rattle.std.specs.Prelude.{◌≡◌, Some};
+ghost use Rattle.journal.specs.declared.fault.Fault.TheVariants as denial;
+ghost use Rattle.journal.specs.declared.answer.Refusal.TheVariants as refusal;
+ghost use Rattle.journal.specs.Answers.{unreadable_text, answer_text, refusal_text, refusal_of};
 
-use crate::command::Unreadable;
+use crate::command::{ReadError, Unreadable};
 use crate::fault::Fault;
+use rates::surcharge::PercentageAbove100;
+use sheet_text::fault::TextFault;
+use std::alloc::AllocError;
 use std::fmt;
 use terms::denial::Denial;
 
@@ -11,13 +16,8 @@ use terms::denial::Denial;
 #[derive(Clone, Copy)]
 pub enum Answer {
     Done,
-    Rate(u64),
-    NoRate,
+    Rate(Option<u64>),
     Read(u64),
-    Denied(Fault),
-    Error(Unreadable),
-    NoFile,
-    NoMemory,
 }
 
 /// The answer to a command: a line, or the records of a sheet.
@@ -25,6 +25,50 @@ pub enum Answer {
 pub enum Reply {
     Line(Answer),
     Sheet(Vec<u8>),
+}
+
+/// Why a command is not carried out.
+#[derive(Clone, Copy)]
+pub enum Refusal {
+    Denied(Fault),
+    Unreadable(Unreadable),
+    NoFile,
+    NoMemory,
+}
+
+impl From<PercentageAbove100> for Refusal {
+    ghost from_gives = { λ fault r. r ≡ refusal.Denied (denial.Surcharge fault) };
+
+    fn from(fault: PercentageAbove100) -> Refusal {
+        Refusal::Denied(Fault::Surcharge(fault))
+    }
+}
+
+impl From<TextFault> for Refusal {
+    ghost from_gives = { λ fault r. r ≡ refusal.Denied (denial.Text fault) };
+
+    fn from(fault: TextFault) -> Refusal {
+        Refusal::Denied(Fault::Text(fault))
+    }
+}
+
+impl From<ReadError> for Refusal {
+    ghost from_gives = { λ error r. r ≡ refusal_of error };
+
+    fn from(error: ReadError) -> Refusal {
+        match error {
+            ReadError::OutOfMemory => Refusal::NoMemory,
+            ReadError::Unreadable(fault) => Refusal::Unreadable(fault),
+        }
+    }
+}
+
+impl From<AllocError> for Refusal {
+    ghost from_gives = { λ _ r. r ≡ refusal.NoMemory };
+
+    fn from(_error: AllocError) -> Refusal {
+        Refusal::NoMemory
+    }
 }
 
 impl fmt::Display for Unreadable {
@@ -48,18 +92,27 @@ impl fmt::Display for Answer {
     fn fmt<W: fmt::Write>(&self, f: &mut fmt::Formatter<W>) -> fmt::Result {
         match self {
             Answer::Done => write!(f, "ok"),
-            Answer::Rate(amount) => write!(f, "rate {amount}"),
-            Answer::NoRate => write!(f, "no rate"),
+            Answer::Rate(Some(amount)) => write!(f, "rate {amount}"),
+            Answer::Rate(None) => write!(f, "no rate"),
             Answer::Read(count) => write!(f, "read {count}"),
-            Answer::Denied(fault) => {
+        }
+    }
+}
+
+impl fmt::Display for Refusal {
+    ghost output = { λ r. Some (refusal_text r) };
+
+    fn fmt<W: fmt::Write>(&self, f: &mut fmt::Formatter<W>) -> fmt::Result {
+        match self {
+            Refusal::Denied(fault) => {
                 let layer = fault.layer();
                 let number = fault.number();
                 let place = fault.place();
                 write!(f, "denied {layer} {number}{place}: {fault}")
             }
-            Answer::Error(fault) => write!(f, "error: {fault}"),
-            Answer::NoFile => write!(f, "error: the file cannot be opened"),
-            Answer::NoMemory => write!(f, "error: out of memory"),
+            Refusal::Unreadable(fault) => write!(f, "error: {fault}"),
+            Refusal::NoFile => write!(f, "error: the file cannot be opened"),
+            Refusal::NoMemory => write!(f, "error: out of memory"),
         }
     }
 }

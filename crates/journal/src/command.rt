@@ -1,12 +1,14 @@
 // The commands of a journal, read from its lines.
-ghost use Rattle.std.specs.Prelude.{◌≡◌, ◌<◌, length, IfOk, OnOk};
+ghost use Rattle.std.specs.Prelude.{◌≡◌, ◌<◌, length, vec_items, OnOk};
 ghost use Rattle.std.specs.Option.{option_map};
 ghost use Rattle.journal.specs.Words.{texts};
-ghost use Rattle.journal.specs.Commands.{spells, has_count, number_at, numbers_from, fault_at, option_of, option_at, source_of, rates_by, rates_of, rates_scale_of, rates_list_of, surcharge_of, rate_of, sheet_day_of, sheet_file_of, check_of, copy_of, verb_of, order_by, order_of, is_comment, file_of, reading, heard, listed, filed, said};
+ghost use Rattle.journal.specs.declared.command.ReadError.TheVariants as read_error;
+ghost use Rattle.journal.specs.Commands.{has_count, number_at, numbers_from, fault_at, option_of, option_at, rates_by, rates_of, surcharge_of, rate_of, sheet_file_of, order_by, is_comment, order_file, reading, heard, Tells, ordered, dated};
 
 use crate::words::{NotNumber, number, words};
 use rates::rate_book::Quote;
-use std::alloc::{AllocError, Global};
+use std::alloc::{AllocError, AllocFailed, Global};
+use std::str;
 use terms::OptionType;
 
 /// How many words `rates scale` is.
@@ -47,162 +49,113 @@ pub enum Unreadable {
     NotOptionType { word: usize },
 }
 
-/// What a line says.
-#[derive(Drop)]
-pub enum Reading {
-    Skipped,
-    Command(Command),
+/// Why a line could not be read.
+#[derive(Clone, Copy)]
+pub enum ReadError {
+    OutOfMemory,
     Unreadable(Unreadable),
 }
 
-impl Reading {
+impl From<AllocError> for ReadError {
+    ghost from_gives = { λ _ error. error ≡ read_error.OutOfMemory };
+
+    fn from(_error: AllocError) -> ReadError {
+        ReadError::OutOfMemory
+    }
+}
+
+impl<T: Drop> From<AllocFailed<T>> for ReadError {
+    ghost from_gives = { λ _ error. error ≡ read_error.OutOfMemory };
+
+    fn from(_error: AllocFailed<T>) -> ReadError {
+        ReadError::OutOfMemory
+    }
+}
+
+impl From<Unreadable> for ReadError {
+    ghost from_gives = { λ fault error. error ≡ read_error.Unreadable fault };
+
+    fn from(fault: Unreadable) -> ReadError {
+        ReadError::Unreadable(fault)
+    }
+}
+
+impl Command {
     /// The name of the file that a command wants to read.
     pub fn file(&self) -> Option<&[u8]>
-        ensures { option_map (λ x. x.now) result ≡ file_of (said self.now) }
+        ensures { option_map (λ x. x.now) result ≡ order_file (ordered self.now) }
     {
         match self {
-            Reading::Command(Command::Check(sheet)) => Some(sheet.file.as_slice()),
-            Reading::Command(Command::Copy(sheet)) => Some(sheet.file.as_slice()),
+            Command::Check(sheet) | Command::Copy(sheet) => Some(sheet.file.as_slice()),
             _ => None,
         }
     }
 }
 
 /// Reads a line, without its line feed. A line with no words, or that begins with `#`, is skipped.
-pub fn read(heap: Global, line: &[u8]) -> Result<Reading, AllocError>
-    ensures { IfOk result (λ g. said g ≡ reading line.now) }
+pub fn read(heap: Global, line: &[u8]) -> Result<Option<Command>, ReadError>
+    ensures { Tells (option_map ordered) (reading line.now) result }
 {
     if is_comment(line) {
-        return Ok(Reading::Skipped);
+        return Ok(None);
     }
     let line = words(heap, line)?;
-    if line.is_empty() {
-        return Ok(Reading::Skipped);
-    }
-    match command_of(heap, line.as_slice())? {
-        Ok(command) => Ok(Reading::Command(command)),
-        Err(fault) => Ok(Reading::Unreadable(fault)),
+    match line.first() {
+        Some(verb) => Ok(Some(command_by(heap, verb, line.as_slice())?)),
+        None => Ok(None),
     }
 }
 
 fn is_comment(line: &[u8]) -> bool
     ensures { result ≡ is_comment line.now }
 {
-    !line.is_empty() && line[0] == b'#'
+    line.starts_with(b"#")
 }
 
-/// What the first word says.
-#[derive(Clone, Copy)]
-enum Verb {
-    Rates,
-    Surcharge,
-    Rate,
-    Check,
-    Copy,
-}
-
-fn verb_of(word: &[u8]) -> Option<Verb>
-    ensures { result ≡ verb_of word.now }
+/// The command of a line that begins with `verb`.
+#[tactic(auto, using(crate::proofs::Keywords::no_text), unfolding(crate::specs::Commands::spells))]
+fn command_by(heap: Global, verb: &[u8], line: &[&[u8]]) -> Result<Command, ReadError>
+    ensures { Tells ordered (order_by verb.now (texts line.now)) result }
 {
-    if is(word, "rates") {
-        Some(Verb::Rates)
-    } else if is(word, "surcharge") {
-        Some(Verb::Surcharge)
-    } else if is(word, "rate") {
-        Some(Verb::Rate)
-    } else if is(word, "check") {
-        Some(Verb::Check)
-    } else if is(word, "copy") {
-        Some(Verb::Copy)
-    } else {
-        None
-    }
-}
-
-fn command_of(heap: Global, line: &[&[u8]]) -> Result<Result<Command, Unreadable>, AllocError>
-    requires { 0 < length line.now }
-    ensures { IfOk result (λ g. heard g ≡ order_of (texts line.now)) }
-{
-    match verb_of(line[0]) {
-        Some(verb) => command_by(heap, verb, line),
-        None => Ok(Err(Unreadable::UnknownCommand)),
-    }
-}
-
-fn command_by(
-    heap: Global,
-    verb: Verb,
-    line: &[&[u8]],
-) -> Result<Result<Command, Unreadable>, AllocError>
-    ensures { IfOk result (λ g. heard g ≡ order_by verb (texts line.now)) }
-{
+    // Text, since a byte string as long as `b"surcharge"` does not prove as a pattern.
+    let Ok(verb) = str::from_utf8(verb) else {
+        return Err(ReadError::Unreadable(Unreadable::UnknownCommand));
+    };
     match verb {
-        Verb::Rates => rates(heap, line),
-        Verb::Surcharge => Ok(surcharge(line)),
-        Verb::Rate => Ok(rate(line)),
-        Verb::Check => check(heap, line),
-        Verb::Copy => copy(heap, line),
-    }
-}
-
-/// What the second word of `rates` says.
-#[derive(Clone, Copy)]
-enum Source {
-    Scale,
-    Listed,
-}
-
-fn source_of(word: &[u8]) -> Option<Source>
-    ensures { result ≡ source_of word.now }
-{
-    if is(word, "scale") {
-        Some(Source::Scale)
-    } else if is(word, "list") {
-        Some(Source::Listed)
-    } else {
-        None
+        "rates" => rates(heap, line),
+        "surcharge" => Ok(surcharge(line)?),
+        "rate" => Ok(rate(line)?),
+        "check" => Ok(Command::Check(sheet_file(heap, line)?)),
+        "copy" => Ok(Command::Copy(sheet_file(heap, line)?)),
+        _ => Err(ReadError::Unreadable(Unreadable::UnknownCommand)),
     }
 }
 
 /// `rates scale`, or `rates list A B ..`.
-fn rates(heap: Global, line: &[&[u8]]) -> Result<Result<Command, Unreadable>, AllocError>
-    ensures { IfOk result (λ g. heard g ≡ rates_of (texts line.now)) }
+fn rates(heap: Global, line: &[&[u8]]) -> Result<Command, ReadError>
+    ensures { Tells ordered (rates_of (texts line.now)) result }
 {
     if line.len() < 2 {
-        return Ok(Err(Unreadable::NoSuchRates));
+        return Err(ReadError::Unreadable(Unreadable::NoSuchRates));
     }
-    match source_of(line[1]) {
-        Some(source) => rates_by(heap, source, line),
-        None => Ok(Err(Unreadable::NoSuchRates)),
-    }
+    rates_by(heap, line[1], line)
 }
 
-fn rates_by(
-    heap: Global,
-    source: Source,
-    line: &[&[u8]],
-) -> Result<Result<Command, Unreadable>, AllocError>
-    ensures { IfOk result (λ g. heard g ≡ rates_by source (texts line.now)) }
+/// The rates of a line whose second word is `source`.
+#[tactic(auto, using(crate::proofs::Keywords::no_text), unfolding(crate::specs::Commands::spells))]
+fn rates_by(heap: Global, source: &[u8], line: &[&[u8]]) -> Result<Command, ReadError>
+    ensures { Tells ordered (rates_by source.now (texts line.now)) result }
 {
+    let Ok(source) = str::from_utf8(source) else {
+        return Err(ReadError::Unreadable(Unreadable::NoSuchRates));
+    };
     match source {
-        Source::Scale => Ok(rates_scale(line)),
-        Source::Listed => rates_list(heap, line),
-    }
-}
-
-fn rates_scale(line: &[&[u8]]) -> Result<Command, Unreadable>
-    ensures { heard result ≡ rates_scale_of (texts line.now) }
-{
-    counted(line, SCALE_WORDS)?;
-    Ok(Command::RatesScale)
-}
-
-fn rates_list(heap: Global, line: &[&[u8]]) -> Result<Result<Command, Unreadable>, AllocError>
-    ensures { IfOk result (λ g. heard g ≡ rates_list_of (texts line.now)) }
-{
-    match numbers_from(heap, line, 2)? {
-        Ok(amounts) => Ok(Ok(Command::RatesList(amounts))),
-        Err(fault) => Ok(Err(fault)),
+        "scale" => {
+            counted(line, SCALE_WORDS)?;
+            Ok(Command::RatesScale)
+        }
+        "list" => Ok(Command::RatesList(numbers_from(heap, line, 2)?)),
+        _ => Err(ReadError::Unreadable(Unreadable::NoSuchRates)),
     }
 }
 
@@ -214,6 +167,7 @@ fn surcharge(line: &[&[u8]]) -> Result<Command, Unreadable>
     if line.len() > 1 + percentages.len() {
         return Err(Unreadable::WordCount);
     }
+    // Stays: over a zip with iter_mut an invariant cannot name what was written.
     for k in 1..line.len() {
         percentages[k - 1] = number_at(line, k)?;
     }
@@ -243,64 +197,29 @@ fn rate(line: &[&[u8]]) -> Result<Command, Unreadable>
     }))
 }
 
-/// `check DAY FILE`.
-fn check(heap: Global, line: &[&[u8]]) -> Result<Result<Command, Unreadable>, AllocError>
-    ensures { IfOk result (λ g. heard g ≡ check_of (texts line.now)) }
-{
-    match sheet_file(heap, line)? {
-        Ok(sheet) => Ok(Ok(Command::Check(sheet))),
-        Err(fault) => Ok(Err(fault)),
-    }
-}
-
-/// `copy DAY FILE`.
-fn copy(heap: Global, line: &[&[u8]]) -> Result<Result<Command, Unreadable>, AllocError>
-    ensures { IfOk result (λ g. heard g ≡ copy_of (texts line.now)) }
-{
-    match sheet_file(heap, line)? {
-        Ok(sheet) => Ok(Ok(Command::Copy(sheet))),
-        Err(fault) => Ok(Err(fault)),
-    }
-}
-
-fn sheet_file(heap: Global, line: &[&[u8]]) -> Result<Result<SheetFile, Unreadable>, AllocError>
-    ensures { IfOk result (λ g. filed g ≡ sheet_file_of (texts line.now)) }
-{
-    match sheet_day(line) {
-        Ok(day) => Ok(Ok(SheetFile {
-            day,
-            file: Vec::from_slice(heap, line[2])?,
-        })),
-        Err(fault) => Ok(Err(fault)),
-    }
-}
-
-fn sheet_day(line: &[&[u8]]) -> Result<u64, Unreadable>
-    ensures value { result ≡ sheet_day_of (texts line.now) }
-    ensures long { OnOk result (length line.now ≡ 3) }
+/// The day and the file of `check DAY FILE` and `copy DAY FILE`.
+fn sheet_file(heap: Global, line: &[&[u8]]) -> Result<SheetFile, ReadError>
+    ensures { Tells dated (sheet_file_of (texts line.now)) result }
 {
     counted(line, SHEET_WORDS)?;
-    number_at(line, 1)
+    let day = number_at(line, 1)?;
+    let file = Vec::from_slice(heap, line[2])?;
+    Ok(SheetFile { day, file })
 }
 
 /// The numbers from the word of index `first` on.
-fn numbers_from(
-    heap: Global,
-    line: &[&[u8]],
-    first: usize,
-) -> Result<Result<Vec<u64>, Unreadable>, AllocError>
-    ensures { IfOk result (λ g. listed g ≡ numbers_from (texts line.now) first) }
+fn numbers_from(heap: Global, line: &[&[u8]], first: usize) -> Result<Vec<u64>, ReadError>
+    ensures { Tells vec_items (numbers_from (texts line.now) first) result }
 {
     let mut numbers = Vec::new(heap);
+    // Stays: a fault tells the index of its word, so `enumerate().skip(first)` is no plainer.
     for k in first..line.len() {
-        match number_at(line, k) {
-            Ok(n) => numbers.push(n)?,
-            Err(fault) => return Ok(Err(fault)),
-        }
+        numbers.push(number_at(line, k)?)?;
     }
-    Ok(Ok(numbers))
+    Ok(numbers)
 }
 
+#[tactic(auto, using(crate::proofs::Lines::length_texts), unfolding(crate::specs::Commands::has_count))]
 fn counted(line: &[&[u8]], count: usize) -> Result<(), Unreadable>
     ensures value { result ≡ has_count (texts line.now) count }
     ensures long { OnOk result (length line.now ≡ count) }
@@ -312,14 +231,12 @@ fn counted(line: &[&[u8]], count: usize) -> Result<(), Unreadable>
     }
 }
 
+#[tactic(auto, using(crate::proofs::Lines::word_at), unfolding(crate::specs::Commands::number_at))]
 fn number_at(line: &[&[u8]], word: usize) -> Result<u64, Unreadable>
     requires { word < length line.now }
     ensures { result ≡ number_at (texts line.now) word }
 {
-    match number(line[word]) {
-        Ok(n) => Ok(n),
-        Err(fault) => Err(fault_at(word, fault)),
-    }
+    number(line[word]).map_err(|fault| fault_at(word, fault))
 }
 
 fn fault_at(word: usize, fault: NotNumber) -> Unreadable
@@ -331,31 +248,21 @@ fn fault_at(word: usize, fault: NotNumber) -> Unreadable
     }
 }
 
+#[tactic(auto, using(crate::proofs::Lines::word_at), unfolding(crate::specs::Commands::option_at))]
 fn option_at(line: &[&[u8]], word: usize) -> Result<OptionType, Unreadable>
     requires { word < length line.now }
     ensures { result ≡ option_at (texts line.now) word }
 {
-    match option_of(line[word]) {
-        Some(option) => Ok(option),
-        None => Err(Unreadable::NotOptionType { word }),
-    }
-}
-
-fn option_of(word: &[u8]) -> Option<OptionType>
-    ensures { result ≡ option_of word.now }
-{
-    if is(word, "call") {
-        Some(OptionType::Call)
-    } else if is(word, "put") {
-        Some(OptionType::Put)
-    } else {
-        None
-    }
+    option_of(line[word]).ok_or(Unreadable::NotOptionType { word })
 }
 
 #[tactic(auto, unfolding(crate::specs::Commands::spells))]
-fn is(word: &[u8], keyword: &str) -> bool
-    ensures { result ≡ spells word.now keyword.now }
+fn option_of(word: &[u8]) -> Option<OptionType>
+    ensures { result ≡ option_of word.now }
 {
-    word == keyword.as_bytes()
+    match word {
+        b"call" => Some(OptionType::Call),
+        b"put" => Some(OptionType::Put),
+        _ => None,
+    }
 }

@@ -23,16 +23,11 @@ const LONGER: usize = 2_600;
 
 const NONE: Leg = Leg { row: 0, lots: 0 };
 
-const NO_LINE: Line = Line {
-    kind: Kind::Covered,
-    legs: [NONE, NONE, NONE, NONE],
-};
-
 /// What the reader answers: how many lines it read, or the denial.
 type Answer = Result<usize, TextFault>;
 
 fn answer_to(text: &[u8]) -> Answer {
-    read(text, DAY, &mut [NO_LINE; 64])
+    read(text, DAY, &mut [Line::default(); 64])
 }
 
 /// Places that follow one another and have one answer.

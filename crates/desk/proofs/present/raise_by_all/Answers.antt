@@ -1,18 +1,17 @@
-use Rattle.std.proofs.Common.{◌+◌, drop, Some, sym, ap, ◌∙◌}
-use Rattle.std.proofs.lemmas.List.{at_drop_more, at_drop_all}
+use Rattle.std.proofs.Common.{◌≡◌, Some, sym, ap, ◌∙◌, refl, rules, Bor}
+use Rattle.std.proofs.lemmas.Fn.{fold_over, fronts}
+use Rattle.std.proofs.lemmas.Iterator.{YieldsList-from_slice}
+use Rattle.rates.specs.declared.percentages.Percentages.{Percentages}
 use Rattle.desk.specs.Present.{raised_by, stacked}
+use Rattle.desk.proofs.Stacks.{stacked_push}
 use Rattle.desk.proofs.present.raise_by_all.Goals as goal
-
-pub loop-percentages-preserved : goal.loop-percentages-preserved
-loop-percentages-preserved c =
-    let left = drop (c.loop-percentages.percentages-index + 1) c.args.surcharges.now in
-    let so_far = Some c.loop-percentages.raised in
-    ap (λ n. stacked left c.args.security (Some n)) c.raise-raised.ensures
-    ∙ ap (λ p. stacked left c.args.security (raised_by c.args.security so_far p)) c.percentages-item.is
-    ∙ sym (at_drop_more (λ ps. stacked ps c.args.security so_far) _ _ _ c.loop-percentages-test.true)
-    ∙ c.loop-percentages.invariant
 
 pub returns : goal.returns
 returns c =
-    sym (at_drop_all (λ ps. stacked ps c.args.security (Some c.loop-percentages.raised)) _ _ c.loop-percentages-test.false)
-    ∙ c.loop-percentages.invariant
+    let security = c.args.security in
+    let first = Some c.args.amount in
+    fold_over fronts (λ (p : Bor Percentages). p.now) _ (λ ps n. Some n ≡ stacked ps security first) _
+    (λ ps before p after closure so_far told.
+    let raised : Some after ≡ raised_by security (Some before) p.now = search rules in
+    (raised ∙ ap (λ n. raised_by security n p.now) so_far ∙ sym (stacked_push ps p.now security first), search rules))
+    c.iter.result _ _ _ (YieldsList-from_slice {s = c.iter.result} c.args.surcharges.now c.iter.ensures.rest).runs refl c.fold.ensures.ran

@@ -13,10 +13,10 @@ returns c =
     let text = c.args.text.now in
     let old = c.as_mut_slice.result.now in
     let new = c.write.new.out in
-    let exact = c.in-Ok-write.ensures.exact in
+    let exact = c.in-Ok.ensures.exact in
     let long : length old ≡ length text = search rules in
-    let told : Ok c.in-Ok-write.field-0 ≡ Ok (length text) = sym exact.0 ∙ ap (writes c.args.day c.args.lines.now) long ∙ c.requires.written in
-    let count : c.in-Ok-write.field-0 ≡ length text = cc in
-    let is : new ≡ text = whole old new text c.in-Ok-write.field-0 (omega arith) (exact.1 ∙ ap (λ front. front ++ drop c.in-Ok-write.field-0 old) c.requires.same) in
-    let held : length new ≡ c.in-Ok.again.len = search rules in
-    inl (record { bytes = with_items c.in-Ok.again new; told = refl; same = with_items_is c.in-Ok.again new held ∙ is })
+    let told : Ok c.in-Ok.field-0 ≡ Ok (length text) = sym exact.0 ∙ ap (writes c.args.day c.args.lines.now) long ∙ c.requires.written in
+    let count : c.in-Ok.field-0 ≡ length text = cc in
+    let is : new ≡ text = whole old new text c.in-Ok.field-0 (omega arith) (exact.1 ∙ ap (λ front. front ++ drop c.in-Ok.field-0 old) c.requires.same) in
+    let held : length new ≡ c.in_ok-again.again.len = search rules in
+    inl (record { bytes = with_items c.in_ok-again.again new; told = refl; same = with_items_is c.in_ok-again.again new held ∙ is })
