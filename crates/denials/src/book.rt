@@ -71,6 +71,7 @@ impl Denial for BookFault {
         }
     }
 
+    // Stays: the product numbers its denials.
     fn number(&self) -> u64 {
         match self {
             BookFault::Stale => 1,

@@ -53,6 +53,7 @@ impl From<(u64, LineFault)> for SheetFault {
 }
 
 impl LegFault {
+    // Stays: the product numbers its denials.
     fn number(self) -> u64
         ensures { result ≡ leg_number self }
     {
@@ -67,6 +68,7 @@ impl LegFault {
 }
 
 impl LineFault {
+    // Stays: the product numbers its denials.
     fn number(self) -> u64
         ensures { result ≡ line_number self }
     {
@@ -101,6 +103,7 @@ impl Denial for SheetFault {
         Layer::Sheet
     }
 
+    // Stays: the product numbers its denials.
     fn number(&self) -> u64 {
         match *self {
             SheetFault::Line { fault, .. } => fault.number(),

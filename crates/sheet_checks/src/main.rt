@@ -131,7 +131,7 @@ fn full_sheet(text: &mut [u8]) -> Result<usize, TextFault> {
 /// Each byte of a sheet in turn replaced by another.
 fn damage(out: &mut BufWriter<Stdout>, text: &mut [u8], byte: u8, what: &str) -> io::Result<()> {
     let mut run = None;
-    // Stays: by place, since the whole text is read while one byte of it is another.
+    // Stays: by place, since the places are printed, and the whole text is read while one byte of it is another.
     for place in 0..text.len() {
         let kept = mem::replace(&mut text[place], byte);
         let ended = extend(&mut run, place, answer_to(text));
@@ -153,6 +153,7 @@ fn damage_all(heap: Global, out: &mut BufWriter<Stdout>, text: &mut [u8]) -> io:
 /// The front of a sheet, at every length.
 fn cut(out: &mut BufWriter<Stdout>, text: &[u8]) -> io::Result<()> {
     let mut run = None;
+    // Stays: by length, since the lengths are what is printed.
     for length in 0..=text.len() {
         let ended = extend(&mut run, length, answer_to(&text[..length]));
         show(out, "length", ended)?;

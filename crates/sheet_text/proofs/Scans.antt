@@ -17,7 +17,7 @@ use Rattle.sheet_text.specs.Brought.{Brought}
 use Rattle.sheet_text.specs.Letters.{sort_of}
 use Rattle.sheet_text.specs.Records.{Shape, cut, record_of}
 use Rattle.sheet_text.specs.Reading.{and_then, turned, step_of, next_state, kept, ended, run, reads, ReadIs}
-use Rattle.sheet_text.specs.Readers.{lines_of, Goes}
+use Rattle.sheet_text.specs.Readers.{found_lines, Goes}
 
 -- a record is cut from its own 38 bytes ---------------------------------------
 
@@ -71,7 +71,7 @@ Rest day room text at st ls = (k : ℕ) × (length text ≤ k + at) × (run k da
 
 -- a reading of the text that has `left` to read
 abbrev pub Underway : ℕ → ℕ → List ℕ → Reader → List ℕ → Type 0
-Underway day room text r left = (r.day ≡ day) × (r.room ≡ room) × (left ≡ drop r.at text) × Rest day room text r.at r.state (lines_of r)
+Underway day room text r left = (r.day ≡ day) × (r.room ≡ room) × (left ≡ drop r.at text) × Rest day room text r.at r.state (found_lines r)
 
 module _ (day cap : ℕ) where
   pub run_step : (k at : ℕ) (st : State) (ls : List Line) (bs : List ℕ) → 0 < length bs → length bs ≤ k →
@@ -108,52 +108,46 @@ module _ (day cap : ℕ) (text : List ℕ) (at : ℕ) (st : State) (ls : List Li
 rest_as : (day cap : ℕ) (text : List ℕ) {at at' : ℕ} {st st' : State} {ls ls' : List Line} → at' ≡ at → st' ≡ st → ls' ≡ ls → Rest day cap text at st ls → Rest day cap text at' st' ls'
 rest_as day cap text a b c r = rw (a, b, c) r
 
-goes_ok : (old new : Reader) (step : ℕ) (x : Result Brought TextFault) → Goes old new step x (Ok tt) →
-    (s : Brought) × (Ok s ≡ x) × (new.day ≡ old.day) × (new.room ≡ old.room) × (new.at ≡ old.at + step) × (new.state ≡ next_state old.state s) × (lines_of new ≡ kept (lines_of old) s)
-goes_ok old new step (Ok s) h = (s, refl, h.1, h.2, h.3, h.4, h.5)
-goes_ok old new step (Err e) h = absurd (let z : ◌≡◌ {A = ℕ} 0 1 = cc in omega arith)
+goes_ok : (old new : Reader) (x : Result Brought TextFault) → Goes old new x (Ok tt) →
+    (s : Brought) × (Ok s ≡ x) × (new.day ≡ old.day) × (new.room ≡ old.room) × (new.at ≡ old.at + 38) × (new.state ≡ next_state old.state s) × (found_lines new ≡ kept (found_lines old) s)
+goes_ok old new (Ok s) h = (s, refl, h.1, h.2, h.3, h.4, h.5)
+goes_ok old new (Err e) h = absurd (let z : ◌≡◌ {A = ℕ} 0 1 = cc in omega arith)
 
-goes_err : (old new : Reader) (step : ℕ) (x : Result Brought TextFault) (f : TextFault) → Goes old new step x (Err f) → Err f ≡ x
-goes_err old new step (Ok s) f h = absurd (let g = h.0 in let z : ◌≡◌ {A = ℕ} 0 1 = cc in omega arith)
-goes_err old new step (Err e) f h = let q : f ≡ e = cc in ap Err q
+goes_err : (old new : Reader) (x : Result Brought TextFault) (f : TextFault) → Goes old new x (Err f) → Err f ≡ x
+goes_err old new (Ok s) f h = absurd (let g = h.0 in let z : ◌≡◌ {A = ℕ} 0 1 = cc in omega arith)
+goes_err old new (Err e) f h = let q : f ≡ e = cc in ap Err q
 
 module _ (day room : ℕ) (text : List ℕ) (old new : Reader) (left p q : List ℕ) (under : Underway day room text old left)
     (cut_is : left ≡ p ++ q) (size : length p ≡ min 38 (length left)) (some : 0 < length left) where
-  step_same : step_of old.day old.room (length (lines_of old)) old.at old.state p ≡ step_of day room (length (lines_of old)) old.at old.state p
+  step_same : step_of old.day old.room (length (found_lines old)) old.at old.state p ≡ step_of day room (length (found_lines old)) old.at old.state p
   step_same = rw (under.0, under.1)
 
-  pub reading_more : Goes old new 38 (step_of old.day old.room (length (lines_of old)) old.at old.state p) (Ok tt) → Underway day room text new q
+  pub reading_more : Goes old new (step_of old.day old.room (length (found_lines old)) old.at old.state p) (Ok tt) → Underway day room text new q
   reading_more h =
-      let g = goes_ok old new 38 (step_of old.day old.room (length (lines_of old)) old.at old.state p) h in
+      let g = goes_ok old new (step_of old.day old.room (length (found_lines old)) old.at old.state p) h in
       let c = chunk left p q cut_is size in
       let e : drop old.at text ≡ p ++ q = sym under.2 ∙ cut_is in
       let l : length p ≡ min 38 (length (drop old.at text)) = size ∙ ap (λ (y : List ℕ). min 38 (length y)) under.2 in
       let pos : 0 < length (drop old.at text) = (rw under.2 at some) in
-      let more = rest_more day room text old.at old.state (lines_of old) under.3 (length (lines_of old)) p q e l pos refl g.0 (g.1 ∙ step_same) in
+      let more = rest_more day room text old.at old.state (found_lines old) under.3 (length (found_lines old)) p q e l pos refl g.0 (g.1 ∙ step_same) in
       let left_is : q ≡ drop (old.at + 38) text = sym c.1 ∙ (ap (drop 38) under.2 ∙ drop-drop 38 old.at text) in
       (g.2 ∙ under.0, g.3 ∙ under.1, left_is ∙ ap (λ (k : ℕ). drop k text) (sym g.4), rest_as day room text g.4 g.5 g.6 more)
 
-  pub reading_err : (f : TextFault) → Goes old new 38 (step_of old.day old.room (length (lines_of old)) old.at old.state p) (Err f) → Err f ≡ reads day room text
+  pub reading_err : (f : TextFault) → Goes old new (step_of old.day old.room (length (found_lines old)) old.at old.state p) (Err f) → Err f ≡ reads day room text
   reading_err f h =
       let e : drop old.at text ≡ p ++ q = sym under.2 ∙ cut_is in
       let l : length p ≡ min 38 (length (drop old.at text)) = size ∙ ap (λ (y : List ℕ). min 38 (length y)) under.2 in
       let pos : 0 < length (drop old.at text) = (rw under.2 at some) in
-      rest-err day room text old.at old.state (lines_of old) under.3 (length (lines_of old)) p q e l pos refl f (goes_err old new 38 _ f h ∙ step_same)
+      rest-err day room text old.at old.state (found_lines old) under.3 (length (found_lines old)) p q e l pos refl f (goes_err old new _ f h ∙ step_same)
 
-pub reading_start : (day room : ℕ) (text : List ℕ) (r : Reader) (left : List ℕ) → r.day ≡ day → r.room ≡ room → r.at ≡ 0 → r.state ≡ state.Head → lines_of r ≡ [] → left ≡ text → Underway day room text r left
-reading_start day room text r left d m a s f l = (d, m, l ∙ ap (λ (k : ℕ). drop k text) (sym a), (length text, omega arith, rw (a, s, f) refl))
+pub reading_start : (day room : ℕ) (text : List ℕ) (r : Reader) (left : List ℕ) → r.day ≡ day → r.room ≡ room → r.at ≡ 0 → r.state ≡ state.Head → found_lines r ≡ [] → left ≡ text → Underway day room text r left
+reading_start day room text r left d m a s f l = (d, m, l ∙ ap (λ (k : ℕ). drop k text) (sym a), rest_as day room text a s f (length text, omega arith, refl))
 
--- a record that is to be read begins within the text
-pub begins : (day room : ℕ) (text : List ℕ) (r : Reader) (left : List ℕ) → Underway day room text r left → 0 < length left → r.at < length text
-begins day room text r left u p =
-    let e : length left ≡ length text - r.at = ap length u.2 ∙ length-drop r.at text in
-    omega arith
-
-pub reading_end : (day room : ℕ) (text : List ℕ) (r : Reader) (left : List ℕ) → Underway day room text r left → length left ≡ 0 → ended r.state r.at (lines_of r) ≡ reads day room text
+pub reading_end : (day room : ℕ) (text : List ℕ) (r : Reader) (left : List ℕ) → Underway day room text r left → length left ≡ 0 → ended r.state r.at (found_lines r) ≡ reads day room text
 reading_end day room text r left u n =
     let d : drop r.at text ≡ [] = nil_from_length (drop r.at text) (sym (ap length u.2) ∙ n) in
-    let R : Rest day room text r.at r.state (lines_of r) = u.3 in
-    sym (run_end day room R.0 r.at r.state (lines_of r)) ∙ (rw d at R.2)
+    let R : Rest day room text r.at r.state (found_lines r) = u.3 in
+    sym (run_end day room R.0 r.at r.state (found_lines r)) ∙ (rw d at R.2)
 
 -- the answers ---------------------------------------------------------------
 

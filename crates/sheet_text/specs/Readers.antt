@@ -1,5 +1,5 @@
 -- A reading on its way: where it stands, and what a record changes there.
-use Rattle.std.specs.Prelude.{◌≡◌, ℕ, ◌+◌, List, Ok, Err, Result}
+use Rattle.std.specs.Prelude.{◌≡◌, ◌+◌, List, Ok, Err, Result}
 use denote.Ref.{Bor}
 use Rattle.terms.specs.declared.strategy.Line.{Line}
 use Rattle.sheet_text.specs.declared.reader.Reader.{Reader}
@@ -8,14 +8,14 @@ use Rattle.sheet_text.specs.Brought.{Brought}
 use Rattle.sheet_text.specs.Reading.{next_state, kept}
 
 -- the lines that are found so far
-abbrev pub lines_of : Reader → List Line
-lines_of r = r.found.items
+abbrev pub found_lines : Reader → List Line
+found_lines r = r.found.items
 
--- the reading goes on by what a record brings, with `step` more bytes read, or answers the record's fault
-abbrev pub Goes : Reader → Reader → ℕ → Result Brought TextFault → Result (Unit {0}) TextFault → Type 0
-Goes old new step (Ok s) r =
-    (r ≡ Ok tt) × (new.day ≡ old.day) × (new.room ≡ old.room) × (new.at ≡ old.at + step) × (new.state ≡ next_state old.state s) × (lines_of new ≡ kept (lines_of old) s)
-Goes old new step (Err e) r = r ≡ Err e
+-- the reading goes on by what a record brings, with its 38 bytes read, or answers the record's fault
+abbrev pub Goes : Reader → Reader → Result Brought TextFault → Result (Unit {0}) TextFault → Type 0
+Goes old new (Ok s) r =
+    (r ≡ Ok tt) × (new.day ≡ old.day) × (new.room ≡ old.room) × (new.at ≡ old.at + 38) × (new.state ≡ next_state old.state s) × (found_lines new ≡ kept (found_lines old) s)
+Goes old new (Err e) r = r ≡ Err e
 
 -- an answer by the lines that it points to
 abbrev pub answered : Result (Bor (List Line)) TextFault → Result (List Line) TextFault

@@ -77,6 +77,12 @@ kept ls step.Opened = ls
 kept ls (step.Found l) = ls ++ (l ∷ [])
 kept ls step.Closed = ls
 
+-- how many records are read at most, where n lines are found
+abbrev pub taken : State → ℕ → ℕ
+taken state.Head n = n
+taken state.Strategies n = n + 1
+taken state.End n = n + 2
+
 -- where the text ends: lawful only after the trailer
 abbrev pub ended : State → ℕ → List Line → Result (List Line) TextFault
 ended state.Head at ls = Err (OutOfTurn at)

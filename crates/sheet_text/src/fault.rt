@@ -30,6 +30,7 @@ impl Denial for TextFault {
         Layer::Text
     }
 
+    // Stays: numbers, since the product numbers its denials.
     fn number(&self) -> u64 {
         match self {
             TextFault::DayOutsideLimits | TextFault::LegOutsideFormat { .. } => 2,

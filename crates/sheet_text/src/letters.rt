@@ -13,6 +13,7 @@ pub(super) enum Sort {
 }
 
 /// What the letter stands for, if it is a record's.
+// Stays: the product prescribes one function of a character, with a case for each letter as it is written.
 pub(super) fn sort_of(letter: char) -> Option<Sort>
     ensures { result ≡ sort_of letter }
 {

@@ -1,10 +1,10 @@
 // Reading a text: record after record, each by what may come next.
-ghost use Rattle.std.specs.Prelude.{◌≡◌, ◌+◌, ◌^◌, ◌<◌, ◌≤◌, [], min, length, IfOk};
+ghost use Rattle.std.specs.Prelude.{◌≡◌, ◌+◌, ◌*◌, ◌^◌, ◌<◌, ◌≤◌, [], min, length, IfOk};
 ghost use Rattle.arrayvec.specs.ArrayVec.{array_vec_len};
 ghost use Rattle.terms.specs.Limits.{most_lines};
 ghost use Rattle.sheet_text.specs.Columns.{blank, field_of};
 ghost use Rattle.sheet_text.specs.Records.{strategy, part, shape_of, Wide};
-ghost use Rattle.sheet_text.specs.Reading.{leg_of, line_of, count_is, turned, step_of, ended, ReadIs};
+ghost use Rattle.sheet_text.specs.Reading.{leg_of, line_of, count_is, taken, turned, step_of, ended, ReadIs};
 ghost use Rattle.sheet_text.specs.declared.reader.State.TheVariants.{Head};
 ghost use Rattle.sheet_text.specs.Laws.{Accepted, Refused, Again};
 ghost use Rattle.sheet_text.specs.Told.{Told};
@@ -39,40 +39,6 @@ fn leg_of(field: &[u8], at: u64) -> Result<Leg, TextFault>
     }
 }
 
-/// The strategy of a record at `at`.
-fn line_of(kind: Kind, legs: [&[u8]; 4], at: u64) -> Result<Line, TextFault>
-    requires { (Wide (strategy kind (part legs 0) (part legs 1) (part legs 2) (part legs 3))) × (at + 38 < 2 ^ 64) }
-    ensures { result ≡ line_of at kind (part legs.entry 0) (part legs.entry 1) (part legs.entry 2) (part legs.entry 3) }
-{
-    let [first, second, third, fourth] = legs;
-    // Stays: four calls, since a chain that stops at the first fault would have to fill an array as it goes.
-    Ok(Line {
-        kind,
-        legs: [
-            leg_of(first, at + 1)?,
-            leg_of(second, at + 10)?,
-            leg_of(third, at + 19)?,
-            leg_of(fourth, at + 28)?,
-        ],
-    })
-}
-
-/// Whether the number of a head or a trailer at `at` is the expected one, and spaces follow.
-fn count_is(count: Count<'_>, expected: u64, at: u64) -> Result<(), TextFault>
-    requires { (length count.number.now ≡ 8) × (at + 38 < 2 ^ 64) }
-    ensures { result ≡ count_is at expected (field_of count.entry.number.now) (blank count.entry.spaces.now) tt }
-{
-    let number = parse_field(count.number).ok_or(TextFault::IllFormed { at: at + 1 })?;
-    if !is_blank(count.spaces) {
-        return Err(TextFault::IllFormed { at: at + 9 });
-    }
-    if u64::from(number) == expected {
-        Ok(())
-    } else {
-        Err(TextFault::Differs { at: at + 1 })
-    }
-}
-
 /// A reading of a text: what the text is held to, and how far it is read.
 #[derive(Drop)]
 struct Reader {
@@ -82,15 +48,16 @@ struct Reader {
     state: State,
     found: ArrayVec<Line, MAX_LINES>,
     ghost within: { (array_vec_len found ≤ room) × (room ≤ most_lines) },
+    ghost short: { at ≤ 38 * taken state (array_vec_len found) },
 }
 
 impl Reader {
-    ghost use Rattle.sheet_text.specs.Readers.{lines_of, answered, Goes};
+    ghost use Rattle.sheet_text.specs.Readers.{found_lines, answered, Goes};
 
     /// Before the first record, with room for as many lines as there are entries.
     fn new(day: u64, entries: usize) -> Reader
         ensures held { (result.day ≡ day) × (result.room ≡ min entries most_lines) }
-        ensures front { (result.at ≡ 0) × (result.state ≡ Head) × (lines_of result ≡ []) }
+        ensures front { (result.at ≡ 0) × (result.state ≡ Head) × (found_lines result ≡ []) }
     {
         Reader {
             day,
@@ -101,16 +68,50 @@ impl Reader {
         }
     }
 
+    /// The strategy of the record that is read.
+    fn line_of(&self, kind: Kind, legs: [&[u8]; 4]) -> Result<Line, TextFault>
+        requires { Wide (strategy kind (part legs 0) (part legs 1) (part legs 2) (part legs 3)) }
+        ensures { result ≡ line_of self.now.at kind (part legs.entry 0) (part legs.entry 1) (part legs.entry 2) (part legs.entry 3) }
+    {
+        let [first, second, third, fourth] = legs;
+        // Stays: four calls, since a chain that stops at the first fault would have to fill an array as it goes.
+        Ok(Line {
+            kind,
+            legs: [
+                leg_of(first, self.at + 1)?,
+                leg_of(second, self.at + 10)?,
+                leg_of(third, self.at + 19)?,
+                leg_of(fourth, self.at + 28)?,
+            ],
+        })
+    }
+
+    /// Whether the number of a head or a trailer is the expected one, and spaces follow.
+    fn count_is(&self, count: Count<'_>, expected: u64) -> Result<(), TextFault>
+        requires { length count.number.now ≡ 8 }
+        ensures { result ≡ count_is self.now.at expected (field_of count.entry.number.now) (blank count.entry.spaces.now) tt }
+    {
+        let at = self.at;
+        let number = parse_field(count.number).ok_or(TextFault::IllFormed { at: at + 1 })?;
+        if !is_blank(count.spaces) {
+            return Err(TextFault::IllFormed { at: at + 9 });
+        }
+        if u64::from(number) == expected {
+            Ok(())
+        } else {
+            Err(TextFault::Differs { at: at + 1 })
+        }
+    }
+
     /// Takes a record's fields, where such a record may come next.
     fn turn(&mut self, came: Record<'_>) -> Result<(), TextFault>
-        requires { (Wide (shape_of came)) × (self.old.at + 38 < 2 ^ 64) }
-        ensures { Goes self.old self.new 0 (turned self.old.day self.old.room (length (lines_of self.old)) self.old.at self.old.state (shape_of came.entry)) result }
+        requires { Wide (shape_of came) }
+        ensures { Goes self.old self.new (turned self.old.day self.old.room (length (found_lines self.old)) self.old.at self.old.state (shape_of came.entry)) result }
     {
         match (self.state, came) {
             (State::Head, Record::Head(count)) => {
-                count_is(count, self.day, self.at)?;
+                self.count_is(count, self.day)?;
                 self.state = State::Strategies;
-                Ok(())
             }
             (State::Strategies, Record::Strategy(kind, first, second, third, fourth)) => {
                 if self.found.len() == self.room {
@@ -118,33 +119,29 @@ impl Reader {
                         limit: self.room as u64,
                     });
                 }
-                let line = line_of(kind, [first, second, third, fourth], self.at)?;
+                let line = self.line_of(kind, [first, second, third, fourth])?;
                 self.found.push(line);
-                Ok(())
             }
             (State::Strategies, Record::Trailer(count)) => {
-                count_is(count, self.found.len() as u64, self.at)?;
+                self.count_is(count, self.found.len() as u64)?;
                 self.state = State::End;
-                Ok(())
             }
-            _ => Err(TextFault::OutOfTurn { at: self.at }),
+            _ => return Err(TextFault::OutOfTurn { at: self.at }),
         }
-    }
-
-    /// Reads the record that comes next.
-    fn take(&mut self, bytes: &[u8]) -> Result<(), TextFault>
-        requires { self.old.at + 38 < 2 ^ 64 }
-        ensures { Goes self.old self.new 38 (step_of self.old.day self.old.room (length (lines_of self.old)) self.old.at self.old.state bytes.now) result }
-    {
-        let came = record_of(bytes, self.at)?;
-        self.turn(came)?;
         self.at += RECORD as u64;
         Ok(())
     }
 
+    /// Reads the record that comes next.
+    fn take(&mut self, bytes: &[u8]) -> Result<(), TextFault>
+        ensures { Goes self.old self.new (step_of self.old.day self.old.room (length (found_lines self.old)) self.old.at self.old.state bytes.now) result }
+    {
+        self.turn(record_of(bytes, self.at)?)
+    }
+
     /// The lines, where the trailer was the last record.
     fn lines(&self) -> Result<&[Line], TextFault>
-        ensures lines { answered result ≡ ended self.now.state self.now.at (lines_of self.now) }
+        ensures lines { answered result ≡ ended self.now.state self.now.at (found_lines self.now) }
         ensures few { IfOk result (λ lines. length lines.now ≤ self.now.room) }
     {
         match self.state {
@@ -155,6 +152,7 @@ impl Reader {
 }
 
 /// Reads the text of a day's sheet into the list, and answers how many lines it has; on a denial the list stays as it was.
+// Stays: the caller's list and a count, the product's form: nothing lies on the heap, and on a denial the list is untouched.
 pub fn read(text: &[u8], day: u64, list: &mut [Line]) -> Result<usize, TextFault>
     ensures exact { ReadIs day text.now list.old list.new result }
     ensures accepted { Accepted day text.now list.old list.new result }

@@ -45,13 +45,13 @@ fn put_leg(out: &mut [u8], leg: Leg)
 }
 
 /// A strategy: its letter and its legs.
-// Stays: places of columns, and no `chunks_exact_mut`: of parts that it gave, a proof knows the lengths alone once they are written.
 fn put_line(out: &mut [u8], line: &Line)
     requires { length out.old ≡ 38 }
     ensures { out.new ≡ line_text line.now }
 {
     out[0] = letter_of(line.kind);
     let legs: &[Leg] = &line.legs;
+    // Stays: places from an index. Tried with `chunks_exact_mut` and `zip`: what `out` holds afterwards stayed open; its length alone is known.
     for (j, leg) in legs.iter().enumerate() {
         let at = 1 + LEG * j;
         put_leg(&mut out[at..at + LEG], *leg);
@@ -65,6 +65,7 @@ fn put_all(day: u32, lines: &[Line], out: &mut [u8])
     ensures { out.new ≡ render day lines.now ++ drop (38 * (length lines.now + 2)) out.old }
 {
     put_count(&mut out[0..RECORD], b'H', day);
+    // Stays: places from an index, for the reason in `put_line`: tried here too, and the same stayed open.
     for (i, line) in lines.iter().enumerate() {
         let at = RECORD * (i + 1);
         put_line(&mut out[at..at + RECORD], line);
@@ -88,7 +89,7 @@ fn unfit_leg(legs: &[Leg]) -> Option<usize>
 }
 
 /// The first leg of all that is outside its limits.
-// Stays: a `for` that returns: in a chain, `find_map` would wrap the fault in an `Option`, only to be unwrapped again.
+// Stays: a `for` with `return`, the plainer: the chain ends in `find_map(..).map_or(Ok(()), Err)`, which turns a fault around twice.
 fn fits(lines: &[Line]) -> Result<(), TextFault>
     ensures first { result ≡ fit_of_lines 0 lines.now }
     ensures all { AllFit result lines.now }
@@ -128,6 +129,7 @@ fn bytes_for(day: u64, lines: &[Line], room: usize) -> Result<usize, TextFault>
 }
 
 /// Writes the text of a day's sheet, and answers how many bytes it has; on a denial the buffer stays as it was.
+// Stays: the caller's buffer and a count, the product's form: nothing lies on the heap, and on a denial the buffer is untouched.
 pub fn write(day: u64, lines: &[Line], out: &mut [u8]) -> Result<usize, TextFault>
     ensures exact { WriteIs day lines.now out.old out.new result }
     ensures told { Judged day lines.now (length out.old) result }

@@ -57,6 +57,7 @@ pub trait Denial {
     fn layer(&self) -> Layer
         ensures { result ≡ layer_of self.now };
 
+    // Stays: a number, since the product numbers its denials.
     fn number(&self) -> u64
         ensures { result ≡ number_of self.now };
 

@@ -22,6 +22,7 @@ pub struct Security {
 }
 
 /// An option series; a premium of 0 says that it did not trade.
+// Stays: 0 and no Option, since the product quotes a premium of 0 as any other.
 #[derive(Clone, Copy)]
 pub struct Series {
     pub option: OptionType,

@@ -30,6 +30,7 @@ impl Kind {
 }
 
 /// So many lots of a row; 0 lots say that the leg is not used.
+// Stays: 0 and no Option, since a sheet can have a row in a leg without lots, which is denied where it is written.
 #[derive(Clone, Copy, Default)]
 pub struct Leg {
     pub row: u32,

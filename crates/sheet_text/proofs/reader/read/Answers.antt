@@ -1,22 +1,16 @@
-use Rattle.std.proofs.Common.{◌≡◌, ℕ, ◌-◌, ◌<◌, ◌≤◌, min, List, ◌++◌, length, Ok, Err, refl, ap, ◌∙◌, arith, rules}
+use Rattle.std.proofs.Common.{◌≡◌, ℕ, ◌-◌, ◌≤◌, min, List, ◌++◌, length, Ok, Err, refl, ap, ◌∙◌, arith, rules}
 use borrow.Rule.Slice.PartMut.{post_of}
 use Rattle.terms.specs.declared.strategy.Line.{Line}
 use Rattle.std.proofs.lemmas.Result.{err_from_is_err_and}
 use Rattle.std.specs.Slice.Iter.{chunks_rest}
 use Rattle.sheet_text.specs.Reading.{reads, ReadIs}
 use Rattle.sheet_text.proofs.Readings.{told-all}
-use Rattle.sheet_text.proofs.Scans.{reading_start, begins, reading_more, reading_err, reading_end, read_err, read_done}
+use Rattle.sheet_text.proofs.Scans.{reading_start, reading_more, reading_err, reading_end, read_err, read_done}
 use Rattle.sheet_text.proofs.reader.read.Goals as goal
 
 pub loop-piece-init : goal.loop-piece-init
 loop-piece-init c =
     (search rules, reading_start c.args.day (min (length c.args.list.now) 64) c.args.text.now c.new-reader.result _ c.new-reader.ensures.held.0 c.new-reader.ensures.held.1 c.new-reader.ensures.front.0 c.new-reader.ensures.front.1 c.new-reader.ensures.front.2 (search rules))
-
-pub take-requires : goal.take-requires
-take-requires c =
-    let s = c.in-Some.ensures.steps.1 in
-    let lt : c.loop-piece.reader.at < length c.args.text.now = begins _ _ c.args.text.now c.loop-piece.reader _ c.loop-piece.invariant.1 s.2 in
-    search rules
 
 pub loop-piece-preserved : goal.loop-piece-preserved
 loop-piece-preserved c =
