@@ -1,19 +1,47 @@
 -- The words of a line by their index, and the numbers that they write.
-use Rattle.std.proofs.Common.{◌≡◌, ℕ, ◌+◌, ◌-◌, ◌<◌, ◌≤◌, leb, List, [], ◌∷◌, ◌++◌, length, get_or, take, drop, set, replicate, Ok, Err, Result, sym, refl, ap, ◌∙◌, append_assoc, append-nil, arith, Bor}
-use Rattle.std.proofs.lemmas.List.{get_or-map, length-map, at_drop_more, at_drop_all, length-set, length-take-le, take-append-drop, take_more_set, drop-set-lt, drop-drop, drop-replicate}
-use Rattle.std.specs.Result.{MatchResult, IsErrAnd}
+use Rattle.std.proofs.Common.{◌≡◌, ℕ, ◌+◌, ◌-◌, ◌<◌, ◌≤◌, leb, List, [], ◌∷◌, ◌++◌, length, get_or, take, drop, set, replicate, Ok, Err, Result, Iter, sym, refl, ap, ◌∙◌, append_assoc, append-nil, arith, Bor}
+use Rattle.std.proofs.lemmas.List.{get_or-map, get_or-drop, length-map, length-drop, at_drop_more, at_drop_all, length-set, length-take-le, take-append-drop, take_more_set, drop-set-lt, drop-drop, drop-replicate}
+use Rattle.std.proofs.lemmas.List.FromFn.{length-enumerate_from, get_or-enumerate_from}
+use Rattle.std.proofs.lemmas.Iterator.{YieldsList, YieldsList-from_slice}
+use Rattle.std.proofs.lemmas.Iterator.Adapters.{YieldsList-from_skip}
+use Rattle.std.proofs.lemmas.Iterator.Consumers.{YieldsList-at, YieldsList-from_enumerate}
+use Rattle.std.proofs.lemmas.Fn.{fronts}
+use Rattle.std.specs.declared.iter.Enumerate.{Enumerate}
+use Rattle.std.specs.declared.iter.Skip.{Skip}
+use Rattle.std.specs.Iterator.Adapters.{enumerate_source, enumerate_count, enumerate_steps, skip_source, skip_count, skip_steps}
+use Rattle.std.specs.Slice.Iter.{iter_rest}
+use Rattle.std.specs.List.{enumerate_from}
 use Rattle.std.proofs.lemmas.Bool.{cond-true, le-leb}
-use Rattle.std.proofs.lemmas.Result.{err_from_is_err_and}
 use Rattle.journal.specs.declared.command.Unreadable.{Unreadable}
-use Rattle.journal.specs.declared.words.NotNumber.{NotNumber}
-use Rattle.journal.specs.Words.{texts}
-use Rattle.journal.specs.Commands.{surcharge, next, fault_at, placed, number_at, numbers_at, numbers_from, surcharge_of}
+use Rattle.journal.specs.Words.{texts, number_of}
+use Rattle.journal.specs.Commands.{surcharge, next, placed, number_at, numbers_at, numbers_from, surcharge_of}
 
 pub length_texts : (parts : List (Bor (List ℕ))) → length (texts parts) ≡ length parts
 length_texts parts = length-map parts (λ part. part.now)
 
 pub word_at : (parts : List (Bor (List ℕ))) (k : ℕ) (d : Bor (List ℕ)) → k < length parts → get_or (texts parts) k [] ≡ (get_or parts k d).now
 word_at parts k d h = get_or-map (λ (part : Bor (List ℕ)). part.now) parts k d [] h
+
+-- what `line.iter().enumerate().skip(first)` yields
+pub indexed : (parts : List (Bor (List ℕ))) (first : ℕ) {words : Iter (Bor (List ℕ))} {counted : Enumerate (Iter (Bor (List ℕ)))} {s t : Skip (Enumerate (Iter (Bor (List ℕ))))} → iter_rest words ≡ parts → (enumerate_source counted ≡ words) × (enumerate_count counted ≡ 0) → (skip_source t ≡ counted) × (skip_count t ≡ first) → s ≡ t → YieldsList (skip_steps (enumerate_steps fronts)) (λ p. (p.0, p.1.now)) s (drop first (enumerate_from 0 parts))
+indexed parts first rest source skipped same =
+    let all = YieldsList-from_enumerate (YieldsList-at source.0 (YieldsList-from_slice parts rest)) source.1 in
+    YieldsList-at same (YieldsList-from_skip first (YieldsList-at skipped.0 all) skipped.1)
+
+pub length-indexed : (parts : List (Bor (List ℕ))) (first : ℕ) → length (drop first (enumerate_from 0 parts)) ≡ length (texts parts) - first
+length-indexed parts first = length-drop first (enumerate_from 0 parts) ∙ ap (λ m. m - first) (length-enumerate_from 0 parts ∙ sym (length_texts parts))
+
+-- item n of `line.iter().enumerate().skip(first)` is a word and its index
+pub item_at : (parts : List (Bor (List ℕ))) (first n k : ℕ) (word : Bor (List ℕ)) → (n < length (drop first (enumerate_from 0 parts))) × ((k, word) ≡ get_or (drop first (enumerate_from 0 parts)) n (k, word)) → (first + n < length (texts parts)) × (k ≡ first + n) × (placed k (number_of word.now) ≡ number_at (texts parts) (first + n))
+unfolding number_at
+item_at parts first n k word h =
+    let in-line : first + n < length (texts parts) = omega (arith, h.0, length-indexed parts first) in
+    let in-parts : first + n < length parts = omega (arith, in-line, length_texts parts) in
+    let item : (k, word) ≡ (0 + (first + n), get_or parts (first + n) word) =
+    h.1 ∙ get_or-drop first (enumerate_from 0 parts) n (k, word) ∙ get_or-enumerate_from 0 parts (first + n) (k, word) in-parts in
+    let text : word.now ≡ get_or (texts parts) (first + n) [] = ap (λ p. p.1.now) item ∙ sym (word_at parts (first + n) word in-parts) in
+    let index : k ≡ first + n = omega (arith, ap (λ p. p.0) item) in
+    (in-line, index, rw (index, text) refl)
 
 -- these numbers, and those that are read after them
 abbrev pub ahead : List ℕ → Result (List ℕ) Unreadable → Result (List ℕ) Unreadable
@@ -84,8 +112,3 @@ module _ {line : List (List ℕ)} {all : List ℕ} {k : ℕ} (so_far : Filled li
       let given = length-take-le (k - 1) all (omega arith) in
       let missing : 16 - length (take (k - 1) all) ≡ 17 - k = omega arith in
       surcharge-is ∙ rw (← so_far.reads, ahead-all line (take (k - 1) all) k h) (ap (λ (l : List ℕ). Ok (surcharge l)) (rw (missing, ← so_far.zeros) (take-append-drop (k - 1) all)))
-
--- number_at
-pub placed-is : {P : NotNumber → Unreadable → Type 0} (k : ℕ) (r : Result ℕ NotNumber) (m : Result ℕ Unreadable) → MatchResult r (λ n. m ≡ Ok n) (λ fault. IsErrAnd m (P fault)) → ((fault : NotNumber) (e : Unreadable) → P fault e → e ≡ fault_at k fault) → m ≡ placed k r
-placed-is k (Ok n) m h is = h
-placed-is k (Err fault) m h is = let p = err_from_is_err_and m h in p.1 ∙ ap (λ (e : Unreadable). Err e) (is fault p.0 p.2)

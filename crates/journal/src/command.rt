@@ -1,9 +1,9 @@
 // The commands of a journal, read from its lines.
 ghost use Rattle.std.specs.Prelude.{◌≡◌, ◌<◌, length, vec_items, OnOk};
 ghost use Rattle.std.specs.Option.{option_map};
-ghost use Rattle.journal.specs.Words.{texts};
+ghost use Rattle.journal.specs.Words.{texts, number_of};
 ghost use Rattle.journal.specs.declared.command.ReadError.TheVariants as read_error;
-ghost use Rattle.journal.specs.Commands.{has_count, number_at, numbers_from, fault_at, option_of, option_at, rates_by, rates_of, surcharge_of, rate_of, sheet_file_of, order_by, is_comment, order_file, reading, heard, Tells, ordered, dated};
+ghost use Rattle.journal.specs.Commands.{has_count, number_at, numbers_from, fault_at, placed, option_of, option_at, rates_by, rates_of, surcharge_of, rate_of, sheet_file_of, order_by, is_comment, order_file, reading, heard, Tells, ordered, dated};
 
 use crate::words::{NotNumber, number, words};
 use rates::rate_book::Quote;
@@ -47,6 +47,18 @@ pub enum Unreadable {
     NotNumber { word: usize },
     TooManyDigits { word: usize },
     NotOptionType { word: usize },
+}
+
+impl From<(usize, NotNumber)> for Unreadable {
+    ghost from_gives = { λ at r. r ≡ fault_at at.0 at.1 };
+
+    fn from(at: (usize, NotNumber)) -> Unreadable {
+        let (word, fault) = at;
+        match fault {
+            NotNumber::NotDigits => Unreadable::NotNumber { word },
+            NotNumber::TooManyDigits => Unreadable::TooManyDigits { word },
+        }
+    }
 }
 
 /// Why a line could not be read.
@@ -167,9 +179,9 @@ fn surcharge(line: &[&[u8]]) -> Result<Command, Unreadable>
     if line.len() > 1 + percentages.len() {
         return Err(Unreadable::WordCount);
     }
-    // Stays: over a zip with iter_mut an invariant cannot name what was written.
-    for k in 1..line.len() {
-        percentages[k - 1] = number_at(line, k)?;
+    // Stays: an index to write at, as over a zip with iter_mut an invariant cannot name what was written.
+    for (k, word) in line.iter().enumerate().skip(1) {
+        percentages[k - 1] = placed_number(k, word)?;
     }
     Ok(Command::Surcharge(percentages))
 }
@@ -212,9 +224,9 @@ fn numbers_from(heap: Global, line: &[&[u8]], first: usize) -> Result<Vec<u64>, 
     ensures { Tells vec_items (numbers_from (texts line.now) first) result }
 {
     let mut numbers = Vec::new(heap);
-    // Stays: a fault tells the index of its word, so `enumerate().skip(first)` is no plainer.
-    for k in first..line.len() {
-        numbers.push(number_at(line, k)?)?;
+    // Stays: `try_collect` needs a closure with its result's type written out, and is no plainer.
+    for (k, word) in line.iter().enumerate().skip(first) {
+        numbers.push(placed_number(k, word)?)?;
     }
     Ok(numbers)
 }
@@ -232,30 +244,29 @@ fn counted(line: &[&[u8]], count: usize) -> Result<(), Unreadable>
 }
 
 #[tactic(auto, using(crate::proofs::Lines::word_at), unfolding(crate::specs::Commands::number_at))]
-fn number_at(line: &[&[u8]], word: usize) -> Result<u64, Unreadable>
-    requires { word < length line.now }
-    ensures { result ≡ number_at (texts line.now) word }
+fn number_at(line: &[&[u8]], k: usize) -> Result<u64, Unreadable>
+    requires { k < length line.now }
+    ensures { result ≡ number_at (texts line.now) k }
 {
-    number(line[word]).map_err(|fault| fault_at(word, fault))
+    placed_number(k, line[k])
 }
 
-fn fault_at(word: usize, fault: NotNumber) -> Unreadable
-    ensures { result ≡ fault_at word fault }
+/// The number that a word writes, which stands at index `k`.
+fn placed_number(k: usize, word: &[u8]) -> Result<u64, Unreadable>
+    ensures { result ≡ placed k (number_of word.now) }
 {
-    match fault {
-        NotNumber::NotDigits => Unreadable::NotNumber { word },
-        NotNumber::TooManyDigits => Unreadable::TooManyDigits { word },
-    }
+    Ok(number(word).map_err(|fault| (k, fault))?)
 }
 
 #[tactic(auto, using(crate::proofs::Lines::word_at), unfolding(crate::specs::Commands::option_at))]
-fn option_at(line: &[&[u8]], word: usize) -> Result<OptionType, Unreadable>
-    requires { word < length line.now }
-    ensures { result ≡ option_at (texts line.now) word }
+fn option_at(line: &[&[u8]], k: usize) -> Result<OptionType, Unreadable>
+    requires { k < length line.now }
+    ensures { result ≡ option_at (texts line.now) k }
 {
-    option_of(line[word]).ok_or(Unreadable::NotOptionType { word })
+    option_of(line[k]).ok_or(Unreadable::NotOptionType { word: k })
 }
 
+// Stays: no `TryFrom`, since both types are of other crates.
 #[tactic(auto, unfolding(crate::specs::Commands::spells))]
 fn option_of(word: &[u8]) -> Option<OptionType>
     ensures { result ≡ option_of word.now }

@@ -28,6 +28,7 @@ impl Denial for Fault {
         }
     }
 
+    // Stays: the product numbers its denials.
     fn number(&self) -> u64 {
         match self {
             Fault::Surcharge(fault) => fault.number(),

@@ -1,26 +1,35 @@
-use Rattle.std.proofs.Common.{◌<◌, ◌≤◌, length, is_ok, sym, ap, ◌∙◌}
+use Rattle.std.proofs.Common.{◌≡◌, ◌+◌, ◌++◌, ◌∷◌, [], length, is_ok, sym, ap, ◌∙◌, ◌≤◌, arith}
 use Rattle.std.proofs.ResultArms.{chosen}
+use Rattle.std.proofs.lemmas.List.{length_push}
 use Rattle.std.proofs.lemmas.Result.{err_from_is_err_and}
+use Rattle.std.proofs.lemmas.Iterator.Consumers.{YieldsList-turn, YieldsList-end}
 use Rattle.journal.specs.Words.{texts}
-use Rattle.journal.proofs.Lines.{length_texts, ahead_none, ahead_more, ahead-stop, ahead-all}
+use Rattle.journal.proofs.Lines.{indexed, length-indexed, item_at, ahead_more, ahead-stop, ahead-all}
 use Rattle.journal.proofs.command.numbers_from.Goals as goal
 
-pub loop-k-init : goal.loop-k-init
-loop-k-init c = rw c.new-numbers.ensures.items (ahead_none _)
-
-pub returns-in_err-number_at : goal.returns-in_err-number_at
-returns-in_err-number_at c =
-    let in-line : c.loop-k.k < length (texts c.args.line.now) = rw length_texts c.loop-k-test.true in
+pub returns-in_err-placed_number : goal.returns-in_err-placed_number
+returns-in_err-placed_number c =
+    let line = c.args.line.now in
+    let all = indexed line c.args.first c.iter.ensures.rest (c.enumerate.ensures.source, c.enumerate.ensures.count) (c.skip-k-items.ensures.source, c.skip-k-items.ensures.count) c.into_iter-k-iterator.ensures.into_iter_gives in
+    let t = YieldsList-turn all c.loop-k.yielded _ c.loop-k.yielded_by _ _ (c.in-Some.k, c.in-Some.word) c.in-Some.is c.next.ensures.steps in
+    let i = item_at line c.args.first (length c.loop-k.yielded) _ _ t in
     let p = err_from_is_err_and c.from_residual.result c.from_residual.ensures.1 in
-    rw (p.1, p.2) (sym (ahead-stop _ _ _ _ in-line c.in_err-number_at.ensures) ∙ c.loop-k.invariant)
+    rw (p.1, p.2) (sym (ahead-stop _ _ _ _ i.0 (c.in_err-placed_number.ensures ∙ i.2)) ∙ c.loop-k.invariant)
 
 pub loop-k-preserved : goal.loop-k-preserved
 loop-k-preserved c =
-    let in-line : c.loop-k.k < length (texts c.args.line.now) = rw length_texts c.loop-k-test.true in
+    let line = c.args.line.now in
+    let all = indexed line c.args.first c.iter.ensures.rest (c.enumerate.ensures.source, c.enumerate.ensures.count) (c.skip-k-items.ensures.source, c.skip-k-items.ensures.count) c.into_iter-k-iterator.ensures.into_iter_gives in
+    let t = YieldsList-turn all c.loop-k.yielded _ c.loop-k.yielded_by _ _ (c.in-Some.k, c.in-Some.word) c.in-Some.is c.next.ensures.steps in
+    let i = item_at line c.args.first (length c.loop-k.yielded) _ _ t in
     let pushed = chosen _ _ _ _ c.push.ensures.items (ap is_ok c.in_ok-push.was) in
-    rw pushed (sym (ahead_more _ _ _ _ in-line c.in_ok-number_at.ensures) ∙ c.loop-k.invariant)
+    let next : c.args.first + length (c.loop-k.yielded ++ (c.in-Some.k, c.in-Some.word) ∷ []) ≡ c.args.first + length c.loop-k.yielded + 1 = omega (arith, length_push c.loop-k.yielded (c.in-Some.k, c.in-Some.word)) in
+    rw (pushed, next) (sym (ahead_more _ _ _ _ i.0 (c.in_ok-placed_number.ensures ∙ i.2)) ∙ c.loop-k.invariant)
 
 pub returns : goal.returns
 returns c =
-    let past : length (texts c.args.line.now) ≤ c.loop-k.k = rw length_texts c.loop-k-test.false in
+    let line = c.args.line.now in
+    let all = indexed line c.args.first c.iter.ensures.rest (c.enumerate.ensures.source, c.enumerate.ensures.count) (c.skip-k-items.ensures.source, c.skip-k-items.ensures.count) c.into_iter-k-iterator.ensures.into_iter_gives in
+    let t = YieldsList-end all c.loop-k.yielded _ c.loop-k.yielded_by _ _ c.in-None.is c.next.ensures.steps in
+    let past : length (texts line) ≤ c.args.first + length c.loop-k.yielded = omega (arith, t.1, length-indexed line c.args.first) in
     sym (ahead-all _ _ _ past) ∙ c.loop-k.invariant
