@@ -48,9 +48,10 @@ pub fn rate_at<R: RateBook>(rates: &mut R, listings: Listings<'_>, row: u32) -> 
     ensures value { result ≡ rate_at (R.RateBook.table rates.old) listings.entry.securities.now listings.entry.rows.now row }
     ensures kept { R.RateBook.table rates.new ≡ R.RateBook.table rates.old }
 {
-    let listed = listings.row(row);
+    let listed = listings.row(row as usize);
     let Contract::Series(series) = listed.contract else {
         return None;
     };
-    rates.rate(&quote_for(row, listed.security, series, listings.security(row)))
+    let security = listings.security(row as usize);
+    rates.rate(&quote_for(row, listed.security, series, security))
 }

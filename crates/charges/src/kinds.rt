@@ -44,14 +44,14 @@ impl ListedLine<'_> {
         requires { leg < 4 }
         ensures { result ≡ contract_at self.entry.listings.rows.now (leg_at self.entry.line.now.legs leg).row }
     {
-        self.listings.contract(self.line.legs[leg].row)
+        self.listings.contract(self.line.legs[leg].row as usize)
     }
 
     /// What a difference in price comes to in one lot of leg 0.
     fn of_lot(self, difference: u32) -> u64
         ensures { result ≡ difference * (security_at self.entry.listings.securities.now self.entry.listings.rows.now (leg_at self.entry.line.now.legs 0).row).lot_size }
     {
-        let security = self.listings.security(self.line.legs[0].row);
+        let security = self.listings.security(self.line.legs[0].row as usize);
         u64::from(difference) * u64::from(security.lot_size)
     }
 
@@ -61,7 +61,7 @@ impl ListedLine<'_> {
         ensures bound { result < 2 ^ 96 }
     {
         let written = self.contract(0);
-        let strike = self.listings.contract(held.row).strike();
+        let strike = self.listings.contract(held.row as usize).strike();
         let left = difference(type_of(written), written.strike(), strike);
         per_lot(held.lots, self.of_lot(left))
     }
@@ -115,7 +115,7 @@ impl ListedLine<'_> {
         let legs = self.line.legs;
         // Stays: of a chain's sum the value was proved, and the bound was not.
         let sum = self.opposed_leg(legs[1]) + self.opposed_leg(legs[2]) + self.opposed_leg(legs[3]);
-        match self.listings.class(legs[0].row) {
+        match self.listings.class(legs[0].row as usize) {
             Class::ListB => sum.min(per_lot(legs[0].lots, self.rate(rates, 0))),
             Class::ListA | Class::Other => sum,
         }

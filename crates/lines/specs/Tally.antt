@@ -1,5 +1,5 @@
 -- Sums of lots by row, for the rows 0 to 63.
-use Rattle.std.specs.Prelude.{◌≡◌, ℕ, ◌+◌, ◌<◌, ◌≤◌, cond, List, [], ◌∷◌, Some, None, Option, slice_index_or}
+use Rattle.std.specs.Prelude.{◌≡◌, ℕ, ◌+◌, ◌<◌, ◌≤◌, cond, List, [], ◌∷◌, length, Some, None, Option, slice_index_or}
 use Rattle.terms.specs.Limits.{most_rows}
 use Rattle.terms.specs.declared.holdings.Row.{Row}
 use Rattle.terms.specs.declared.strategy.Line.{Line}
@@ -18,12 +18,13 @@ lots_at sums row = slice_index_or sums row no_lots
 abbrev pub Below : ℕ → List Lots → Type 0
 Below most sums = (r : ℕ) → AtMost most (lots_at sums r)
 
--- to the lots of each row its figures were added, and none grew by more than so much
+-- to the lots of each row its figures were added, none grew by more than so much, and there are as many as before
 pub record Gains (sums sums' : List Lots) (holding writing : ℕ → ℕ) (most : ℕ) : Type 0 where
   pub held : (r : ℕ) → r < most_rows → (lots_at sums' r).held ≡ (lots_at sums r).held + holding r
   pub written : (r : ℕ) → r < most_rows → (lots_at sums' r).written ≡ (lots_at sums r).written + writing r
   pub held_most : (r : ℕ) → (lots_at sums' r).held ≤ (lots_at sums r).held + most
   pub written_most : (r : ℕ) → (lots_at sums' r).written ≤ (lots_at sums r).written + most
+  pub size : length sums' ≡ length sums
 
 -- the sums are the lots of each row that lines hold and write
 pub record Tallies (lines : List Line) (sums : List Lots) : Type 0 where

@@ -1,5 +1,5 @@
 // The lots of every row that lines group, added up in one pass.
-ghost use Rattle.std.specs.Prelude.{◌≡◌, ◌*◌, ◌^◌, not};
+ghost use Rattle.std.specs.Prelude.{◌≡◌, ◌*◌, ◌^◌, length, not};
 ghost use Rattle.lines.specs.Lots.{held_leg, written_leg, holds, writes, fits};
 ghost use Rattle.lines.specs.Tally.{Below, Gains, Tallies, first_overdrawn};
 
@@ -29,7 +29,8 @@ impl Model for Tally {
 impl Tally {
     /// The lots of each row that lines group.
     pub fn of(lines: &[Line]) -> Tally
-        ensures { Tallies lines.now result }
+        ensures tallies { Tallies lines.now result }
+        ensures rows { length result ≡ 64 }
     {
         let mut tally = Tally::default();
         for line in lines {

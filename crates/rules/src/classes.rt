@@ -36,7 +36,7 @@ impl LineInBook<'_> {
     pub(crate) fn has_right_class(self) -> bool
         ensures { let line = self.entry.line.now in result ≡ right_class line.kind line.legs self.entry.listings.rows.now self.entry.listings.securities.now }
     {
-        let class = self.listings.class(self.leg(0).row);
+        let class = self.listings.class(self.leg(0).row as usize);
         is_admitted(self.line.kind, self.lead(), class)
     }
 }

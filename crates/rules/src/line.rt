@@ -26,14 +26,14 @@ impl LineInBook<'_> {
     pub(crate) fn row(self, leg: Leg) -> Row
         ensures { result ≡ row_of self.entry.listings.rows.now leg }
     {
-        self.listings.row(leg.row)
+        self.listings.row(leg.row as usize)
     }
 
     /// What the lots of a leg are lots of.
     pub(crate) fn contract(self, leg: Leg) -> Contract
         ensures { result ≡ contract_of self.entry.listings.rows.now leg }
     {
-        self.listings.contract(leg.row)
+        self.listings.contract(leg.row as usize)
     }
 
     /// What the lots of leg 0 are lots of.
