@@ -17,9 +17,9 @@ pub(crate) fn outside(position: u64, figure: Figure) -> BookFault
 impl Book {
     /// Denies a slip that is not the book's of today, or of another stage.
     pub(crate) fn admits<S: InStage>(&self, slip: &Slip<S>) -> Result<(), BookFault>
-        ensures { result ≡ admits S.stage (view self.now) slip.now.book slip.now.day }
+        ensures { result ≡ admits S.STAGE (view self.now) slip.now.book slip.now.day }
     {
-        let current = self.stage == Some(S::stage())
+        let current = self.stage == Some(S::STAGE)
             && slip.book == self.number
             && slip.day == self.day;
         current.then_some(()).ok_or(BookFault::Stale)

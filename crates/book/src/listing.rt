@@ -1,5 +1,5 @@
 // Listing: securities, option series and term operations.
-ghost use Rattle.std.specs.Prelude.{◌≡◌, length};
+ghost use Rattle.std.specs.Prelude.{length};
 ghost use Rattle.book.specs.Calls.{Settled, new_row, with_row};
 ghost use Rattle.book.specs.History.{security_listed, series_listed, term_listed};
 ghost use Rattle.book.specs.Promise.{Call};

@@ -22,8 +22,13 @@ impl Book {
     {
         self.admits(slip)?;
         let close = limited::<Price>(price).ok_or(outside(1, Figure::ClosingPrice))?;
-        let i = self.securities.find(security)?;
-        self.securities.quote(i, close);
+        let i = security as usize;
+        let listed = self
+            .securities
+            .listed
+            .get_mut(i)
+            .ok_or(BookFault::NoSuchSecurity { security })?;
+        listed.close = close;
         Ok(())
     }
 

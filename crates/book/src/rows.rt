@@ -33,15 +33,16 @@ impl Rows {
         ensures value { result ≡ series_at self.now.listed.items row }
         ensures within { OnOk result (row < array_vec_len self.now.listed) }
     {
-        match self.listed.get(row as usize) {
-            Some(
-                Row {
-                    contract: Contract::Series(series),
-                    ..
-                },
-            ) => Ok(*series),
-            _ => Err(BookFault::NoSuchSeries { row }),
-        }
+        let Some(
+            Row {
+                contract: Contract::Series(series),
+                ..
+            },
+        ) = self.listed.get(row as usize)
+        else {
+            return Err(BookFault::NoSuchSeries { row });
+        };
+        Ok(*series)
     }
 
     /// Whether the row of a number has ended by the day; one that is not listed has not.
@@ -60,6 +61,7 @@ impl Rows {
         self.listed.iter().position(|other| row.is_same(other))
     }
 
+    // Stays: here and below an index that is required; through `get_mut` it stayed open that a denied call leaves the rows.
     pub(crate) fn replace(&mut self, i: usize, row: Row)
         requires { i < array_vec_len self.old.listed }
         ensures { self.new.listed.items ≡ slice_set self.old.listed.items i row }

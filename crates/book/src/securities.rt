@@ -25,12 +25,4 @@ impl Securities {
             .then_some(i)
             .ok_or(BookFault::NoSuchSecurity { security })
     }
-
-    /// Replaces a closing price.
-    pub(crate) fn quote(&mut self, i: usize, close: u32)
-        requires { i < array_vec_len self.old.listed }
-        ensures { self.new.listed.items ≡ requoted self.old.listed.items i close }
-    {
-        self.listed[i].close = close;
-    }
 }

@@ -1,6 +1,5 @@
 // Slips: what admits a caller to the calls of a stage. A slip is moved, never copied; a call that changes the stage takes the
 // slip and gives the one of the next stage, or hands it back where it is denied.
-ghost use Rattle.std.specs.Prelude.{◌≡◌};
 ghost use Rattle.terms.specs.declared.stage.Stage.{Stage};
 ghost use Rattle.terms.specs.declared.stage.Stage.TheVariants as stages;
 
@@ -10,10 +9,9 @@ use terms::stage::Stage;
 
 /// A stage of a book's day, as a type.
 pub(crate) trait InStage {
-    ghost stage: { Stage };
+    ghost STAGE: { Stage };
 
-    fn stage() -> Stage
-        ensures { result ≡ stage };
+    const STAGE: Stage;
 }
 
 /// A book's day in trading.
@@ -23,19 +21,15 @@ pub struct InTrading;
 pub struct InValuing;
 
 impl InStage for InTrading {
-    ghost stage = { stages.Trading };
+    ghost STAGE = { stages.Trading };
 
-    fn stage() -> Stage {
-        Stage::Trading
-    }
+    const STAGE: Stage = Stage::Trading;
 }
 
 impl InStage for InValuing {
-    ghost stage = { stages.Valuing };
+    ghost STAGE = { stages.Valuing };
 
-    fn stage() -> Stage {
-        Stage::Valuing
-    }
+    const STAGE: Stage = Stage::Valuing;
 }
 
 /// Admits its holder to the calls of a stage.

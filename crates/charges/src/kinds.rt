@@ -32,6 +32,7 @@ fn difference(option: OptionType, written: u32, held: u32) -> u32
 }
 
 /// A strategy line, and the listings that its rows are in.
+// Stays: a struct of its own beside the one of `rules`, since a crate can give methods to its own types alone.
 #[derive(Clone, Copy)]
 struct ListedLine<'a> {
     listings: Listings<'a>,

@@ -9,7 +9,7 @@ use terms::denial::{Denial, Layer, Place};
 use terms::limits::{ROWS, SECURITIES};
 
 /// A figure that a call on a book is given.
-#[derive(Clone, Copy)]
+#[derive(Clone, Copy, PartialEq, Eq, Debug)]
 pub enum Figure {
     BookNumber,
     Day,
@@ -25,7 +25,7 @@ pub enum Figure {
 }
 
 /// Why a call on a book was denied.
-#[derive(Clone, Copy)]
+#[derive(Clone, Copy, PartialEq, Eq, Debug)]
 pub enum BookFault {
     /// The slip's book, day or stage is not the book's.
     Stale,

@@ -8,7 +8,7 @@ use std::fmt;
 use terms::denial::{Denial, Layer, Place};
 
 /// What is wrong with one leg of a line.
-#[derive(Clone, Copy)]
+#[derive(Clone, Copy, PartialEq, Eq, Debug)]
 pub enum LegFault {
     NoSuchRow,
     WrongSort,
@@ -18,7 +18,7 @@ pub enum LegFault {
 }
 
 /// What is wrong with a line: the line as a whole, or one of its legs.
-#[derive(Clone, Copy)]
+#[derive(Clone, Copy, PartialEq, Eq, Debug)]
 pub enum LineFault {
     LegCount,
     ClassNotAdmitted,
@@ -28,7 +28,7 @@ pub enum LineFault {
 }
 
 /// What is wrong with a sheet: one of its lines, or a row of which it asks more lots than there are.
-#[derive(Clone, Copy)]
+#[derive(Clone, Copy, PartialEq, Eq, Debug)]
 pub enum SheetFault {
     Line { line: u64, fault: LineFault },
     Overdrawn { row: u64 },

@@ -41,10 +41,10 @@ impl Desk {
     ) -> Result<Option<Reply>, Refusal>
         ensures { Answers line (contents file) (present_rate self.old.rates) result (present_rate self.new.rates) }
     {
-        match line? {
-            Some(command) => Ok(Some(self.carry_out(heap, command, file)?)),
-            None => Ok(None),
-        }
+        let Some(command) = line? else {
+            return Ok(None);
+        };
+        self.carry_out(heap, command, file).map(Some)
     }
 
     fn carry_out(

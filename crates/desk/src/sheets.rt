@@ -39,8 +39,6 @@ fn write_again(heap: Global, day: u64, lines: &[Line], text: &[u8]) -> Result<Re
     ensures { ShowsOr text.now result }
 {
     let mut again = vec![in heap; 0u8; text.len()]?;
-    match write(day, lines, again.as_mut_slice()) {
-        Ok(_) => Ok(Reply::Sheet(again)),
-        Err(_) => unreachable(),
-    }
+    write(day, lines, again.as_mut_slice()).unwrap();
+    Ok(Reply::Sheet(again))
 }

@@ -45,5 +45,5 @@ refusal_text NoMemory = codes "error: out of memory"
 
 -- why a command is not carried out that could not be read
 abbrev pub refusal_of : ReadError → Refusal
-refusal_of read_error.OutOfMemory = NoMemory
+refusal_of read_error.NoMemory = NoMemory
 refusal_of (read_error.Unreadable fault) = refusal.Unreadable fault

@@ -184,5 +184,5 @@ heard (Err fault) = Err fault
 -- what was read, seen by `view`, is what the words say, unless memory was wanting
 abbrev pub Tells : {T X : Type 0} → (T → X) → Result X Unreadable → Result T ReadError → Type 0
 Tells view words (Ok given) = Ok (view given) ≡ words
-Tells view words (Err read_error.OutOfMemory) = ⊤
+Tells view words (Err read_error.NoMemory) = ⊤
 Tells view words (Err (read_error.Unreadable fault)) = Err fault ≡ words

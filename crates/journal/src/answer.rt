@@ -13,7 +13,7 @@ use std::fmt;
 use terms::denial::Denial;
 
 /// The answer to a command, in one line.
-#[derive(Clone, Copy)]
+#[derive(Clone, Copy, PartialEq, Eq, Debug)]
 pub enum Answer {
     Done,
     Rate(Option<u64>),
@@ -28,7 +28,7 @@ pub enum Reply {
 }
 
 /// Why a command is not carried out.
-#[derive(Clone, Copy)]
+#[derive(Clone, Copy, PartialEq, Eq, Debug)]
 pub enum Refusal {
     Denied(Fault),
     Unreadable(Unreadable),
@@ -57,7 +57,7 @@ impl From<ReadError> for Refusal {
 
     fn from(error: ReadError) -> Refusal {
         match error {
-            ReadError::OutOfMemory => Refusal::NoMemory,
+            ReadError::NoMemory => Refusal::NoMemory,
             ReadError::Unreadable(fault) => Refusal::Unreadable(fault),
         }
     }

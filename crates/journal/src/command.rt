@@ -10,6 +10,7 @@ use rates::rate_book::Quote;
 use std::alloc::{AllocError, AllocFailed, Global};
 use std::str;
 use terms::OptionType;
+use terms::limits::SECURITIES;
 
 /// How many words `rates scale` is.
 const SCALE_WORDS: usize = 2;
@@ -25,7 +26,7 @@ const SHEET_WORDS: usize = 3;
 pub enum Command {
     RatesScale,
     RatesList(Vec<u64>),
-    Surcharge([u64; 16]),
+    Surcharge([u64; SECURITIES]),
     Rate(Quote),
     Check(SheetFile),
     Copy(SheetFile),
@@ -39,7 +40,7 @@ pub struct SheetFile {
 }
 
 /// Why a line is no command. A word goes by its index in the line, from 0.
-#[derive(Clone, Copy)]
+#[derive(Clone, Copy, PartialEq, Eq, Debug)]
 pub enum Unreadable {
     UnknownCommand,
     WordCount,
@@ -62,25 +63,25 @@ impl From<(usize, NotNumber)> for Unreadable {
 }
 
 /// Why a line could not be read.
-#[derive(Clone, Copy)]
+#[derive(Clone, Copy, PartialEq, Eq, Debug)]
 pub enum ReadError {
-    OutOfMemory,
+    NoMemory,
     Unreadable(Unreadable),
 }
 
 impl From<AllocError> for ReadError {
-    ghost from_gives = { λ _ error. error ≡ read_error.OutOfMemory };
+    ghost from_gives = { λ _ error. error ≡ read_error.NoMemory };
 
     fn from(_error: AllocError) -> ReadError {
-        ReadError::OutOfMemory
+        ReadError::NoMemory
     }
 }
 
 impl<T: Drop> From<AllocFailed<T>> for ReadError {
-    ghost from_gives = { λ _ error. error ≡ read_error.OutOfMemory };
+    ghost from_gives = { λ _ error. error ≡ read_error.NoMemory };
 
     fn from(_error: AllocFailed<T>) -> ReadError {
-        ReadError::OutOfMemory
+        ReadError::NoMemory
     }
 }
 
@@ -112,10 +113,10 @@ pub fn read(heap: Global, line: &[u8]) -> Result<Option<Command>, ReadError>
         return Ok(None);
     }
     let line = words(heap, line)?;
-    match line.first() {
-        Some(verb) => Ok(Some(command_by(heap, verb, line.as_slice())?)),
-        None => Ok(None),
-    }
+    let Some(verb) = line.first() else {
+        return Ok(None);
+    };
+    command_by(heap, verb, line.as_slice()).map(Some)
 }
 
 fn is_comment(line: &[u8]) -> bool
@@ -175,7 +176,7 @@ fn rates_by(heap: Global, source: &[u8], line: &[&[u8]]) -> Result<Command, Read
 fn surcharge(line: &[&[u8]]) -> Result<Command, Unreadable>
     ensures { heard result ≡ surcharge_of (texts line.now) }
 {
-    let mut percentages = [0; 16];
+    let mut percentages = [0; SECURITIES];
     if line.len() > 1 + percentages.len() {
         return Err(Unreadable::WordCount);
     }
@@ -224,7 +225,7 @@ fn numbers_from(heap: Global, line: &[&[u8]], first: usize) -> Result<Vec<u64>, 
     ensures { Tells vec_items (numbers_from (texts line.now) first) result }
 {
     let mut numbers = Vec::new(heap);
-    // Stays: `try_collect` needs a closure with its result's type written out, and is no plainer.
+    // Stays: a `for` with `?`; with `try_collect` it stayed open what is answered where a word is no number.
     for (k, word) in line.iter().enumerate().skip(first) {
         numbers.push(placed_number(k, word)?)?;
     }
@@ -236,11 +237,9 @@ fn counted(line: &[&[u8]], count: usize) -> Result<(), Unreadable>
     ensures value { result ≡ has_count (texts line.now) count }
     ensures long { OnOk result (length line.now ≡ count) }
 {
-    if line.len() == count {
-        Ok(())
-    } else {
-        Err(Unreadable::WordCount)
-    }
+    (line.len() == count)
+        .then_some(())
+        .ok_or(Unreadable::WordCount)
 }
 
 #[tactic(auto, using(crate::proofs::Lines::word_at), unfolding(crate::specs::Commands::number_at))]

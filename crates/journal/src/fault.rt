@@ -8,7 +8,7 @@ use std::fmt;
 use terms::denial::{Denial, Layer, Place};
 
 /// A fault of the layer below, handed on whole.
-#[derive(Clone, Copy)]
+#[derive(Clone, Copy, PartialEq, Eq, Debug)]
 pub enum Fault {
     Surcharge(PercentageAbove100),
     Text(TextFault),

@@ -11,7 +11,7 @@ use std::str;
 const MAX_DIGITS: usize = 18;
 
 /// Why a word is not a number.
-#[derive(Clone, Copy)]
+#[derive(Clone, Copy, PartialEq, Eq, Debug)]
 pub enum NotNumber {
     NotDigits,
     TooManyDigits,

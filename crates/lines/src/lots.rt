@@ -66,6 +66,7 @@ pub fn lots_in(line: &Line, row: usize) -> Lots
     // a slice, whose length the loop's proof knows
     let legs: &[Leg] = &line.legs;
     let mut lots = Lots::default();
+    // Stays: a loop, since adding asks that the sums fit, and of a closure for `fold` that stayed open.
     for (i, leg) in legs.iter().enumerate() {
         lots.add(leg_lots_in(line.kind, i, *leg, row));
     }

@@ -5,8 +5,7 @@ ghost use Rattle.lines.specs.Lots.{Computes, takes, touches};
 use terms::strategy::Leg;
 
 /// A set of rows.
-// Stays: a closure in its place would have to be required callable, and no public function requires anything of its caller; a
-// ghost field cannot say it of a closure.
+// Stays: a closure would have to be required callable, and no public function requires anything of its caller.
 pub trait RowSet {
     // which rows are in it
     ghost has: { Self → ℕ → Bool };

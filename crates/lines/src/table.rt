@@ -120,6 +120,7 @@ fn fitting_front(lines: &[Line], row: usize, net: i32) -> usize
     ensures { Front row net lines.now result }
 {
     let mut lots = Lots::default();
+    // Stays: a loop, since the sums so far are kept from line to line; in a closure for `position` they would change unseen.
     for (i, line) in lines.iter().enumerate() {
         lots.add(lots_in(line, row));
         if !lots.fit(net) {

@@ -21,12 +21,12 @@ impl Percentages {
     pub fn new(each: [u64; SECURITIES]) -> Result<Percentages, PercentageAbove100>
         ensures { MatchResult result (λ p. p.each ≡ each) (λ fault. Denied each fault) }
     {
-        match each.iter().position(|percent| *percent > 100) {
-            Some(security) => Err(PercentageAbove100 {
+        if let Some(security) = each.iter().position(|percent| *percent > 100) {
+            return Err(PercentageAbove100 {
                 security: security as u64,
-            }),
-            None => Ok(Percentages { each }),
+            });
         }
+        Ok(Percentages { each })
     }
 
     /// The percentage of a security, and 0 past the listed ones.

@@ -13,8 +13,7 @@ use terms::strategy::Leg;
 pub(crate) fn deny_unless<F: Drop>(right: bool, fault: F) -> Result<(), F>
     ensures { result ≡ unless right fault }
 {
-    // Stays: `right.then_some(()).ok_or(fault)` is no plainer, as it makes an Option on the way.
-    if right { Ok(()) } else { Err(fault) }
+    right.then_some(()).ok_or(fault)
 }
 
 impl LineInBook<'_> {

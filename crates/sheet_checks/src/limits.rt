@@ -7,7 +7,7 @@ use std::io::{BufWriter, Stdout, Write};
 use terms::denial::Denial;
 use terms::strategy::{Kind, Leg, Line};
 
-const NONE: Leg = Leg { row: 0, lots: 0 };
+pub const NONE: Leg = Leg { row: 0, lots: 0 };
 
 const COVERED: Line = Line {
     kind: Kind::Covered,

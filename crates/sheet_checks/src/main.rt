@@ -5,7 +5,7 @@ ghost use Rattle.std.specs.Prelude.{◌<◌};
 
 mod limits;
 
-use limits::show_limits;
+use limits::{NONE, show_limits};
 use sheet_text::fault::TextFault;
 use sheet_text::reader::read;
 use sheet_text::writer::write;
@@ -20,8 +20,6 @@ const DAY: u64 = 12;
 const TWO_LINES: usize = 152;
 
 const LONGER: usize = 2_600;
-
-const NONE: Leg = Leg { row: 0, lots: 0 };
 
 /// What the reader answers: how many lines it read, or the denial.
 type Answer = Result<usize, TextFault>;

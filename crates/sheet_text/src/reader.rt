@@ -33,10 +33,10 @@ fn leg_of(field: &[u8], at: u64) -> Result<Leg, TextFault>
         return Ok(Leg::default());
     }
     let row = parse_field(&field[0..3]).ok_or(TextFault::IllFormed { at })?;
-    match parse_field(&field[3..9]) {
-        Some(lots) if lots > 0 => Ok(Leg { row, lots }),
-        _ => Err(TextFault::IllFormed { at: at + 3 }),
-    }
+    let lots = parse_field(&field[3..9])
+        .filter(|lots| *lots > 0)
+        .ok_or(TextFault::IllFormed { at: at + 3 })?;
+    Ok(Leg { row, lots })
 }
 
 /// A reading of a text: what the text is held to, and how far it is read.
@@ -96,11 +96,9 @@ impl Reader {
         if !is_blank(count.spaces) {
             return Err(TextFault::IllFormed { at: at + 9 });
         }
-        if u64::from(number) == expected {
-            Ok(())
-        } else {
-            Err(TextFault::Differs { at: at + 1 })
-        }
+        (u64::from(number) == expected)
+            .then_some(())
+            .ok_or(TextFault::Differs { at: at + 1 })
     }
 
     /// Takes a record's fields, where such a record may come next.

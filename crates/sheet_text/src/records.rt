@@ -24,7 +24,7 @@ pub(super) struct Count<'a> {
 #[derive(Clone, Copy)]
 pub(super) enum Record<'a> {
     Head(Count<'a>),
-    // Stays: four parts and no array, since the check covers no array of references in a case of an enum.
+    // Stays: four parts, since the check covers no array of references in a case of an enum.
     Strategy(Kind, &'a [u8], &'a [u8], &'a [u8], &'a [u8]),
     Trailer(Count<'a>),
 }

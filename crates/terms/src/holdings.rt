@@ -93,6 +93,7 @@ impl Contract {
     }
 
     /// Whether two series, or two term operations, are equal; premium and guarantee are not compared.
+    // Stays: no derived `==`, which would compare them.
     pub fn is_same(self, other: Contract) -> bool
         ensures { result ≡ same_contract self other }
     {
@@ -109,6 +110,7 @@ impl Contract {
 
 impl Row {
     /// Whether two rows have equal contracts on one security.
+    // Stays: no derived `==`, which would compare nets too.
     pub fn is_same(&self, other: &Row) -> bool
         ensures { result ≡ same_row self.now other.now }
     {

@@ -30,6 +30,7 @@ pub const MAX_BOOK_NUMBER: u64 = 65_535;
 pub const MAX_NET: i128 = 10_000;
 
 /// A figure that has limits.
+// Stays: a test for each figure; two constants for each, and a law that ties them to its definition, would be no plainer.
 pub trait HasLimits {
     // which numbers lie within them
     ghost within: { ℕ → Bool };
@@ -102,7 +103,8 @@ impl HasLimits for LotSize {
     }
 }
 
-/// A term operation's guarantee per lot, where it is within its limits; it has 64 bits, as no other figure has.
+/// A term operation's guarantee per lot, where it is within its limits.
+// Stays: a function of its own, since a guarantee has 64 bits, and `limited` gives 32.
 pub fn guarantee(amount: u64) -> Option<u64>
     ensures { result ≡ limited is_guarantee amount }
 {

@@ -3,7 +3,7 @@ ghost use Rattle.std.specs.Prelude.{◌≡◌};
 ghost use Rattle.terms.specs.Sides.{writes};
 
 /// What a strategy is.
-#[derive(Clone, Copy, Default)]
+#[derive(Clone, Copy, PartialEq, Eq, Debug, Default)]
 pub enum Kind {
     #[default]
     Opposed,
@@ -31,14 +31,14 @@ impl Kind {
 
 /// So many lots of a row; 0 lots say that the leg is not used.
 // Stays: 0 and no Option, since a sheet can have a row in a leg without lots, which is denied where it is written.
-#[derive(Clone, Copy, Default)]
+#[derive(Clone, Copy, PartialEq, Eq, Debug, Default)]
 pub struct Leg {
     pub row: u32,
     pub lots: u32,
 }
 
 /// A strategy line: its kind and its four legs; the default one, of unused legs, stands where a list has no line yet.
-#[derive(Clone, Copy, Default)]
+#[derive(Clone, Copy, PartialEq, Eq, Debug, Default)]
 pub struct Line {
     pub kind: Kind,
     pub legs: [Leg; 4],

@@ -8,8 +8,8 @@ returns-in_err-admits c = called _ _ _ (search rules)
 pub returns-in_err-close : goal.returns-in_err-close
 returns-in_err-close c = called _ _ _ (search rules)
 
-pub returns-in_err-i : goal.returns-in_err-i
-returns-in_err-i c = called _ _ _ (search rules)
+pub returns-in_err-listed : goal.returns-in_err-listed
+returns-in_err-listed c = called _ _ _ (search rules)
 
 pub returns : goal.returns
 returns c = called _ _ _ (search rules)
