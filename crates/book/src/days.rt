@@ -27,8 +27,8 @@ impl Book {
             number: 0,
             day: 0,
             stage: None,
-            securities: Securities::default(),
-            rows: Rows::default(),
+            securities: Securities::new(),
+            rows: Rows::new(),
             lines: Lines::new(),
         }
     }

@@ -1,4 +1,6 @@
 // The book of one client.
+ghost use Rattle.std.specs.Prelude.{◌≤◌, length};
+
 use crate::rows::Rows;
 use crate::securities::Securities;
 use lines::table::Lines;
@@ -13,6 +15,7 @@ pub struct Book {
     pub(crate) securities: Securities,
     pub(crate) rows: Rows,
     pub(crate) lines: Lines,
+    ghost few: { length lines ≤ 64 },
 }
 
 /// Under which numbers a security and its deposit were listed.

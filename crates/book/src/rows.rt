@@ -1,5 +1,5 @@
 // The table of rows: at most 64, kept in place.
-ghost use Rattle.std.specs.Prelude.{◌≡◌, ◌<◌, map, OnOk, slice_set};
+ghost use Rattle.std.specs.Prelude.{◌≡◌, ◌<◌, ◌≤◌, [], map, OnOk, slice_set};
 ghost use Rattle.std.specs.List.{position};
 ghost use Rattle.terms.specs.Holdings.{closed, ended_at, same_row};
 ghost use Rattle.arrayvec.specs.ArrayVec.{array_vec_len};
@@ -11,21 +11,30 @@ use terms::holdings::{Contract, Row, Series};
 use terms::limits::ROWS;
 
 /// The listed rows, by number.
-#[derive(Default, Drop)]
+#[derive(Drop)]
 pub(crate) struct Rows {
     pub(crate) listed: ArrayVec<Row, ROWS>,
+    ghost few: { array_vec_len listed ≤ 64 },
 }
 
 impl Rows {
+    pub(crate) fn new() -> Rows
+        ensures { result.listed.items ≡ [] }
+    {
+        Rows {
+            listed: ArrayVec::new(),
+        }
+    }
+
     /// A row that is listed.
     pub(crate) fn find(&self, row: u64) -> Result<Row, BookFault>
         ensures value { result ≡ row_at self.now.listed.items row }
         ensures within { OnOk result (row < array_vec_len self.now.listed) }
     {
-        self.listed
-            .get(row as usize)
-            .copied()
-            .ok_or(BookFault::NoSuchRow { row })
+        let Some(listed) = self.listed.get(row as usize) else {
+            return Err(BookFault::NoSuchRow { row });
+        };
+        Ok(*listed)
     }
 
     /// An option series that is listed.

@@ -40,7 +40,9 @@ fn traded_in(day: u32, number: u64, lots: i64, row: Row) -> Result<Row, BookFaul
     if row.contract.is_over(day) {
         return Err(BookFault::RowEnds { row: number });
     }
-    let net = net_with(row.net, lots).ok_or(BookFault::NetTooFar { row: number })?;
+    let Some(net) = net_with(row.net, lots) else {
+        return Err(BookFault::NetTooFar { row: number });
+    };
     if is_owed(row.contract, net) {
         return Err(BookFault::DepositBelowZero { row: number });
     }

@@ -6,7 +6,7 @@ mod proved;
 
 use desk::desk::Desk;
 use journal::answer::Reply;
-use journal::command::read;
+use journal::command::{ReadError, read};
 use nested::surcharged_twice;
 use rates::laws::laws_stand;
 use rates::rate_book::Quote;
@@ -17,7 +17,11 @@ use terms::OptionType;
 
 // What the desk answers; none to a blank line and a comment.
 fn answered(heap: Global, desk: &mut Desk, command: &str) -> Result<Option<String>, AllocError> {
-    let answer = match desk.answer(heap, read(heap, command.as_bytes()), None) {
+    let said = read(heap, command.as_bytes());
+    if let Err(ReadError::NoMemory) = said {
+        return Err(AllocError);
+    }
+    let answer = match desk.answer(heap, said, None) {
         Ok(Some(Reply::Line(answer))) => answer.to_string(heap)?,
         Ok(Some(Reply::Sheet(_))) => String::from_str(heap, "a sheet")?,
         Ok(None) => return Ok(None),

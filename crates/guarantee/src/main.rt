@@ -4,6 +4,7 @@
 use desk::desk::Desk;
 use journal::answer::{Refusal, Reply};
 use journal::command::{Command, read};
+use journal::words::without_line_feed;
 use std::io::{BufRead, BufReader, BufWriter, Stdout, Write};
 use std::{fs, io, str};
 
@@ -14,7 +15,7 @@ fn fetch(rt: &HostRuntime, command: &Command) -> Option<Vec<u8>> {
 }
 
 fn answer(rt: &HostRuntime, desk: &mut Desk, line: &[u8]) -> Result<Option<Reply>, Refusal> {
-    let said = read(rt.alloc(), line);
+    let said = read(rt.alloc(), without_line_feed(line));
     let file = if let Ok(Some(command)) = &said {
         fetch(rt, command)
     } else {
@@ -33,11 +34,17 @@ fn show(output: &mut BufWriter<Stdout>, answer: Result<Option<Reply>, Refusal>) 
 }
 
 fn play(rt: &HostRuntime) -> io::Result<()> {
-    let input = BufReader::new(rt.alloc(), rt.stdin())?;
+    let mut input = BufReader::new(rt.alloc(), rt.stdin())?;
     let mut output = BufWriter::new(rt.alloc(), rt.stdout())?;
     let mut desk = Desk::new(rt.alloc());
-    for line in input.split(rt.alloc(), b'\n') {
-        show(&mut output, answer(rt, &mut desk, line?.as_slice()))?;
+    let mut line = Vec::new(rt.alloc());
+    // Stays: one buffer for all lines, which `split` takes anew for each.
+    for _ in 0..u64::MAX {
+        line.clear();
+        if input.read_until(b'\n', &mut line)? == 0 {
+            break;
+        }
+        show(&mut output, answer(rt, &mut desk, line.as_slice()))?;
     }
     output.flush()
 }

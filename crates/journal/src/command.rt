@@ -3,12 +3,11 @@ ghost use Rattle.std.specs.Prelude.{◌≡◌, ◌<◌, length, vec_items, OnOk}
 ghost use Rattle.std.specs.Option.{option_map};
 ghost use Rattle.journal.specs.Words.{texts, number_of};
 ghost use Rattle.journal.specs.declared.command.ReadError.TheVariants as read_error;
-ghost use Rattle.journal.specs.Commands.{has_count, number_at, numbers_from, fault_at, placed, option_of, option_at, rates_by, rates_of, surcharge_of, rate_of, sheet_file_of, order_by, is_comment, order_file, reading, heard, Tells, ordered, dated};
+ghost use Rattle.journal.specs.Commands.{spells, has_count, number_at, numbers_from, fault_at, placed, option_of, option_at, rates_by, rates_of, surcharge_of, rate_of, sheet_file_of, order_by, is_comment, order_file, reading, heard, Tells, ordered, dated};
 
 use crate::words::{NotNumber, number, words};
 use rates::rate_book::Quote;
 use std::alloc::{AllocError, AllocFailed, Global};
-use std::str;
 use terms::OptionType;
 use terms::limits::SECURITIES;
 
@@ -109,7 +108,7 @@ impl Command {
 pub fn read(heap: Global, line: &[u8]) -> Result<Option<Command>, ReadError>
     ensures { Tells (option_map ordered) (reading line.now) result }
 {
-    if is_comment(line) {
+    if line.is_empty() || is_comment(line) {
         return Ok(None);
     }
     let line = words(heap, line)?;
@@ -126,21 +125,23 @@ fn is_comment(line: &[u8]) -> bool
 }
 
 /// The command of a line that begins with `verb`.
-#[tactic(auto, using(crate::proofs::Keywords::no_text), unfolding(crate::specs::Commands::spells))]
+// Stays: a test after another, here and in `rates_by`: a `match` on text reads each word as text first, which made short
+// commands half as long again, and on bytes its proof stays open.
 fn command_by(heap: Global, verb: &[u8], line: &[&[u8]]) -> Result<Command, ReadError>
     ensures { Tells ordered (order_by verb.now (texts line.now)) result }
 {
-    // Text, since a byte string as long as `b"surcharge"` does not prove as a pattern.
-    let Ok(verb) = str::from_utf8(verb) else {
-        return Err(ReadError::Unreadable(Unreadable::UnknownCommand));
-    };
-    match verb {
-        "rates" => rates(heap, line),
-        "surcharge" => Ok(surcharge(line)?),
-        "rate" => Ok(rate(line)?),
-        "check" => Ok(Command::Check(sheet_file(heap, line)?)),
-        "copy" => Ok(Command::Copy(sheet_file(heap, line)?)),
-        _ => Err(ReadError::Unreadable(Unreadable::UnknownCommand)),
+    if is(verb, "rates") {
+        rates(heap, line)
+    } else if is(verb, "surcharge") {
+        Ok(surcharge(line)?)
+    } else if is(verb, "rate") {
+        Ok(rate(line)?)
+    } else if is(verb, "check") {
+        Ok(Command::Check(sheet_file(heap, line)?))
+    } else if is(verb, "copy") {
+        Ok(Command::Copy(sheet_file(heap, line)?))
+    } else {
+        Err(ReadError::Unreadable(Unreadable::UnknownCommand))
     }
 }
 
@@ -155,20 +156,16 @@ fn rates(heap: Global, line: &[&[u8]]) -> Result<Command, ReadError>
 }
 
 /// The rates of a line whose second word is `source`.
-#[tactic(auto, using(crate::proofs::Keywords::no_text), unfolding(crate::specs::Commands::spells))]
 fn rates_by(heap: Global, source: &[u8], line: &[&[u8]]) -> Result<Command, ReadError>
     ensures { Tells ordered (rates_by source.now (texts line.now)) result }
 {
-    let Ok(source) = str::from_utf8(source) else {
-        return Err(ReadError::Unreadable(Unreadable::NoSuchRates));
-    };
-    match source {
-        "scale" => {
-            counted(line, SCALE_WORDS)?;
-            Ok(Command::RatesScale)
-        }
-        "list" => Ok(Command::RatesList(numbers_from(heap, line, 2)?)),
-        _ => Err(ReadError::Unreadable(Unreadable::NoSuchRates)),
+    if is(source, "scale") {
+        counted(line, SCALE_WORDS)?;
+        Ok(Command::RatesScale)
+    } else if is(source, "list") {
+        Ok(Command::RatesList(numbers_from(heap, line, 2)?))
+    } else {
+        Err(ReadError::Unreadable(Unreadable::NoSuchRates))
     }
 }
 
@@ -275,4 +272,11 @@ fn option_of(word: &[u8]) -> Option<OptionType>
         b"put" => Some(OptionType::Put),
         _ => None,
     }
+}
+
+#[tactic(auto, unfolding(crate::specs::Commands::spells))]
+fn is(word: &[u8], keyword: &str) -> bool
+    ensures { result ≡ spells word.now keyword.now }
+{
+    word == keyword.as_bytes()
 }

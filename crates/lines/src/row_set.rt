@@ -1,5 +1,5 @@
 // Sets of rows, and the lines that use one of their rows.
-ghost use Rattle.std.specs.Prelude.{◌≡◌, ℕ, Bool};
+ghost use Rattle.std.specs.Prelude.{◌≡◌, ℕ, Bool, ◌==◌};
 ghost use Rattle.lines.specs.Lots.{Computes, takes, touches};
 
 use terms::strategy::Leg;
@@ -12,6 +12,20 @@ pub trait RowSet {
 
     fn contains(&self, row: usize) -> bool
         ensures { result ≡ has self.now row };
+}
+
+/// One row alone.
+#[derive(Clone, Copy)]
+pub struct OneRow {
+    pub row: usize,
+}
+
+impl RowSet for OneRow {
+    ghost has = { λ set row. (row == set.row) };
+
+    fn contains(&self, row: usize) -> bool {
+        row == self.row
+    }
 }
 
 /// Whether one of the legs is used and has a row of the set.

@@ -22,12 +22,15 @@ pub struct Lines {
 }
 
 impl Model for Lines {
-    ghost use Rattle.std.specs.Prelude.{List};
+    ghost use Rattle.std.specs.Prelude.{◌≤◌, List};
+    ghost use Rattle.arrayvec.specs.ArrayVec.{array_vec_len};
     ghost use Rattle.terms.specs.declared.strategy.Line.{Line};
 
     ghost Value = { List Line };
 
     ghost view = { λ lines. lines.items.items };
+
+    ghost invariant = { λ lines. array_vec_len lines.items ≤ 64 };
 }
 
 impl Lines {
@@ -75,13 +78,15 @@ impl Lines {
         ensures broken { result ≡ slice_get self.old line }
         ensures lines { OnSome result (self.new ≡ remove self.old line) }
         ensures same { IfNone result (self.new ≡ self.old) }
+        ensures few { length self.new ≤ 64 }
     {
         self.items.pop_at(line)
     }
 
     /// Breaks lines until the lots of a row fit its net, the highest-numbered users of the row first, and answers how many.
     pub fn fit(&mut self, row: usize, net: i32) -> usize
-        ensures { Broken row net self.old result self.new }
+        ensures broken { Broken row net self.old result self.new }
+        ensures few { length self.new ≤ 64 }
     {
         let before = self.items.len();
         let front = fitting_front(self.items.as_slice(), row, net);
@@ -91,7 +96,8 @@ impl Lines {
 
     /// Breaks every line that uses a row of the set.
     pub fn break_users<S: RowSet>(&mut self, set: &S)
-        ensures { self.new ≡ sparing (S.RowSet.has set.now) self.old }
+        ensures spared { self.new ≡ sparing (S.RowSet.has set.now) self.old }
+        ensures few { length self.new ≤ 64 }
     {
         self.spare_from(0, &|row: u32| set.contains(row as usize));
     }
@@ -100,7 +106,8 @@ impl Lines {
     fn spare_from<F: Fn(u32) -> bool>(&mut self, from: usize, in_set: &F)
         requires { F.IsAlwaysCallable in_set.now }
         ensures spared { (has : ℕ → Bool) → Computes (F.post in_set.now) has → self.new ≡ sparing_from from has self.old }
-        ensures few { length self.new ≤ length self.old }
+        ensures fewer { length self.new ≤ length self.old }
+        ensures few { length self.new ≤ 64 }
     {
         let mut ahead = from;
         self.items.retain(

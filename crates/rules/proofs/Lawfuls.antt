@@ -61,16 +61,16 @@ module _ (is : ℕ → Leg → Bool) where
   from_none (leg ∷ legs) k h = no_here (used leg) (is k leg) k _ (h zero k (omega arith)) (from_none legs (k + 1) (λ i j n u. h (suc i) j (omega arith) u))
 
   -- no used leg is so
-  none_is : (legs : List Leg) → first_leg is 0 legs ≡ None → (i : ℕ) → used (leg_at legs i) ≡ true → is i (leg_at legs i) ≡ false
+  pub none_is : (legs : List Leg) → first_leg is 0 legs ≡ None → (i : ℕ) → used (leg_at legs i) ≡ true → is i (leg_at legs i) ≡ false
   none_is legs e i u = none_from legs 0 i i (omega arith) e u
 
-  is_none : (legs : List Leg) → ((i : ℕ) → used (leg_at legs i) ≡ true → is i (leg_at legs i) ≡ false) → first_leg is 0 legs ≡ None
+  pub is_none : (legs : List Leg) → ((i : ℕ) → used (leg_at legs i) ≡ true → is i (leg_at legs i) ≡ false) → first_leg is 0 legs ≡ None
   is_none legs h = from_none legs 0 (λ i j n u. let same : i ≡ j = omega arith in subst (λ n. is n (leg_at legs i) ≡ false) same (h i u))
 
-  some_not : (legs : List Leg) → some_leg is legs ≡ false → (i : ℕ) → used (leg_at legs i) ≡ true → is i (leg_at legs i) ≡ false
+  pub some_not : (legs : List Leg) → some_leg is legs ≡ false → (i : ℕ) → used (leg_at legs i) ≡ true → is i (leg_at legs i) ≡ false
   some_not legs e = none_is legs (unsome (first_leg is 0 legs) e)
 
-  not_some : (legs : List Leg) → ((i : ℕ) → used (leg_at legs i) ≡ true → is i (leg_at legs i) ≡ false) → some_leg is legs ≡ false
+  pub not_some : (legs : List Leg) → ((i : ℕ) → used (leg_at legs i) ≡ true → is i (leg_at legs i) ≡ false) → some_leg is legs ≡ false
   not_some legs h = ap is_some (is_none legs h)
 
 -- the used legs come first

@@ -85,7 +85,7 @@ module _ (day cap : ℕ) where
   run_end (suc k) at st ls = refl
 
 module _ (day cap : ℕ) (text : List ℕ) (at : ℕ) (st : State) (ls : List Line) (r : Rest day cap text at st ls) where
-  rest-step : (n : ℕ) (p q : List ℕ) → drop at text ≡ p ++ q → length p ≡ min 38 (length (drop at text)) → 0 < length (drop at text) → length ls ≡ n → (x : Result Brought TextFault) → x ≡ step_of day cap n at st p →
+  pub rest-step : (n : ℕ) (p q : List ℕ) → drop at text ≡ p ++ q → length p ≡ min 38 (length (drop at text)) → 0 < length (drop at text) → length ls ≡ n → (x : Result Brought TextFault) → x ≡ step_of day cap n at st p →
       reads day cap text ≡ and_then x (λ s. run (r.0 - 1) day cap (at + 38) (next_state st s) (kept ls s) (drop (at + 38) text))
   rest-step n p q e l pos m x is =
       let c = chunk (drop at text) p q e l in
@@ -97,11 +97,11 @@ module _ (day cap : ℕ) (text : List ℕ) (at : ℕ) (st : State) (ls : List Li
       let dd : drop 38 (drop at text) ≡ drop (at + 38) text = drop-drop 38 at text in
       rw (is2, ← dd) (sym r.2 ∙ g)
 
-  rest_more : (n : ℕ) (p q : List ℕ) → drop at text ≡ p ++ q → length p ≡ min 38 (length (drop at text)) → 0 < length (drop at text) → length ls ≡ n → (s : Brought) → Ok s ≡ step_of day cap n at st p →
+  pub rest_more : (n : ℕ) (p q : List ℕ) → drop at text ≡ p ++ q → length p ≡ min 38 (length (drop at text)) → 0 < length (drop at text) → length ls ≡ n → (s : Brought) → Ok s ≡ step_of day cap n at st p →
       Rest day cap text (at + 38) (next_state st s) (kept ls s)
   rest_more n p q e l pos m s is = (r.0 - 1, omega (arith, r.1), sym (rest-step n p q e l pos m (Ok s) is))
 
-  rest-err : (n : ℕ) (p q : List ℕ) → drop at text ≡ p ++ q → length p ≡ min 38 (length (drop at text)) → 0 < length (drop at text) → length ls ≡ n → (f : TextFault) → Err f ≡ step_of day cap n at st p →
+  pub rest-err : (n : ℕ) (p q : List ℕ) → drop at text ≡ p ++ q → length p ≡ min 38 (length (drop at text)) → 0 < length (drop at text) → length ls ≡ n → (f : TextFault) → Err f ≡ step_of day cap n at st p →
       Err f ≡ reads day cap text
   rest-err n p q e l pos m f is = sym (rest-step n p q e l pos m (Err f) is)
 
