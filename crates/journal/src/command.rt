@@ -125,8 +125,8 @@ fn is_comment(line: &[u8]) -> bool
 }
 
 /// The command of a line that begins with `verb`.
-// Stays: a test after another, here and in `rates_by`: a `match` on text reads each word whole first, which took `rates scale`
-// a fifth longer and a long word half as long again, and of a `match` on bytes the proof stayed open.
+// Stays: a test after another, here and in `rates_by`: a `match` on text reads each word whole first, which took 1.2 times the
+// instructions on `rates scale` and 1.6 times on a long word, and of a `match` on bytes the proof stayed open.
 fn command_by(heap: Global, verb: &[u8], line: &[&[u8]]) -> Result<Command, ReadError>
     ensures { Tells ordered (order_by verb.now (texts line.now)) result }
 {
